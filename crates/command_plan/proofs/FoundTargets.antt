@@ -1,19 +1,27 @@
 -- What a command refuses, notes, seals and names is what its target says.
-use Rattle.std.proofs.Common.{◌≡◌, ◌≤◌, ℕ, ◌+◌, false, true, List, [], length, replicate, Some, Result, Ok, Err, refl, sym, ap, ◌∙◌, subst}
+use Rattle.std.proofs.Common.{◌≡◌, ◌≤◌, ◌<◌, ℕ, ◌+◌, arith, false, true, List, [], length, replicate, Some, None, Result, Ok, Err, refl, sym, ap, ◌∙◌, subst}
 use Rattle.std.specs.Borrow.{Bor}
+use Rattle.std.specs.Prelude.{IsSome}
 use Rattle.std.specs.Result.{IfOk}
-use Rattle.cry_base.specs.Refusing.{has_bad_name, id_of}
+use Rattle.std.proofs.lemmas.Bool.{false≢true}
+use Rattle.cry_base.specs.Refusing.{granted_id, has_bad_name, id_of}
 use Rattle.cry_base.specs.Requests.{Request}
 use Rattle.cry_base.specs.Requests.Request.{AddHolder, MakeFolder, WriteFile, Remove, Rename, Relocate, Grant, Revoke}
-use Rattle.cry_base.specs.Store.{Store, node_at}
+use Rattle.cry_base.specs.Clearances.{clear_base}
+use Rattle.cry_base.specs.Store.{Store, FileEntry, file_entry, node_at}
 use Rattle.cry_base.specs.declared.roles.Node.{Node}
 use Rattle.cry_base.specs.declared.roles.Node.TheVariants.{Folder, File}
 use Rattle.cry_base.specs.Listed.{Listed}
 use Rattle.folder_nodes.specs.Targets.{IsTargetOf, file_found}
 use Rattle.folder_nodes.specs.Targets.IsTargetOf.{AddsHolder, MakesFolder, WritesFile, Removes, Renames, Relocates, Grants, Revokes}
 use Rattle.folder_nodes.specs.Titles.{Titles, tree_store}
+use Rattle.folder_nodes.specs.Trees.{IsTree}
 use Rattle.folder_nodes.specs.declared.targets.Target.{Target}
 use Rattle.folder_nodes.specs.declared.targets.Target.TheVariants as targets
+use Rattle.folder_nodes.proofs.Ascending.{All-in}
+use Rattle.folder_nodes.proofs.Checked.{found_stands}
+use Rattle.folder_nodes.proofs.Downward.{file_id}
+use Rattle.folder_nodes.proofs.Located.{file_in}
 use Rattle.grant_book.specs.Granted.{Granted}
 use Rattle.grant_book.specs.Refused.{refusal_of_grant}
 use Rattle.record_format.specs.Noted.Note.{NewFolder, Give, Take}
@@ -21,7 +29,7 @@ use Rattle.move_plan.specs.Noting.{move_note, note_of, remove_note, rename_note,
 use Rattle.journal_bytes.specs.Owning.{IsStoreOf, refusal_for_grants}
 use Rattle.journal_bytes.specs.Texting.{due_key, due_text, file_text, name_at, titled_text}
 use Rattle.command_plan.specs.NameChanges.{IsNameChangeOf, IsRemoving, IsRenaming, IsSetting, IsWriting}
-use Rattle.command_plan.specs.Targeted.{HasShortName, IsNameChangeTo, key_to, note_to, refusal_to, text_to}
+use Rattle.command_plan.specs.Targeted.{HasNumber, HasShortName, IsNameChangeTo, IsNumbered, key_to, note_to, refusal_to, text_to}
 use Rattle.command_plan.specs.declared.name_change.NameChange.{NameChange}
 use Rattle.command_plan.proofs.Forms.{bytes_form, last_named, name_form, name_size, short}
 use Rattle.command_plan.proofs.NotesTold.{bytes_note, folder_note, grant_note, holder_note, name_note, removal_note, revoke_note, shift_note}
@@ -30,21 +38,20 @@ use Rattle.command_plan.proofs.TextsTold.{named_anew}
 -- ---- why the grants refuse it
 
 pub refusal_told : (g : Granted) (s : Store) {r : Request} {target : Target} → IsTargetOf s r target → refusal_to g target ≡ refusal_for_grants s g r
-unfolding id_of
 refusal_told g s AddsHolder = refl
 refusal_told g s (MakesFolder place named) = refl
 refusal_told g s (WritesFile place at named) = refl
 refusal_told g s (Removes at) = refl
 refusal_told g s (Renames at) = refl
 refusal_told g s (Relocates at to) = refl
-refusal_told g s (Grants {holder = holder} at) = ap (λ o. refusal_of_grant g.checks g.pairs true holder.0 (id_of o)) (sym at)
-refusal_told g s (Revokes {holder = holder} at) = ap (λ o. refusal_of_grant g.checks g.pairs false holder.0 (id_of o)) (sym at)
+refusal_told g s (Grants {holder = holder} at) = ap (λ o. refusal_of_grant g.checks g.pairs true holder.0 (granted_id o)) (sym at)
+refusal_told g s (Revokes {holder = holder} at) = ap (λ o. refusal_of_grant g.checks g.pairs false holder.0 (granted_id o)) (sym at)
 
 -- ---- its note
 
 module _ (tree : Store) (n : Titles) (g : Granted) (s : Store) (is : IsStoreOf tree n g s) where
   pub note_told : {r : Request} {target : Target} → IsTargetOf (tree_store tree n) r target → note_to tree (length g.checks) target ≡ note_of s r (replicate 32 0)
-  unfolding id_of
+  unfolding id_of granted_id
   note_told AddsHolder = holder_note tree n g s is (replicate 32 0) AddHolder refl
   note_told (MakesFolder {path = path} {parent = parent} place named) =
       ap (λ o. NewFolder (tree.folders_made + 1) (id_of o)) (sym place) ∙ folder_note tree n g s is (replicate 32 0) (MakeFolder path) path refl
@@ -61,9 +68,31 @@ module _ (tree : Store) (n : Titles) (g : Granted) (s : Store) (is : IsStoreOf t
       ∙ ap (λ o. move_note (node_at (tree_store tree n) path) (id_of o)) (sym to)
       ∙ shift_note tree n g s is (replicate 32 0) (Relocate path into) path into refl
   note_told (Grants {path = path} {holder = holder} at) =
-      ap (λ o. Give holder.0 (id_of o)) (sym at) ∙ grant_note tree n g s is (replicate 32 0) (Grant holder.0 path) holder.0 path refl
+      ap (λ o. Give holder.0 (granted_id o)) (sym at) ∙ grant_note tree n g s is (replicate 32 0) (Grant holder.0 path) holder.0 path refl
   note_told (Revokes {path = path} {holder = holder} at) =
-      ap (λ o. Take holder.0 (id_of o)) (sym at) ∙ revoke_note tree n g s is (replicate 32 0) (Revoke holder.0 path) holder.0 path refl
+      ap (λ o. Take holder.0 (granted_id o)) (sym at) ∙ revoke_note tree n g s is (replicate 32 0) (Revoke holder.0 path) holder.0 path refl
+
+-- ---- the number of what it grants
+
+numbered : (tree : Store) (n : Titles) (path : List ℕ) (node : Node) → IsTree tree → tree.files_made < clear_base → node_at (tree_store tree n) path ≡ Some node → IsNumbered node
+numbered tree n path (Folder f) is low at = tt
+numbered tree n path (File x) is low at =
+    (elim (file_entry tree x.0) as (λ o. file_entry tree x.0 ≡ o → IsSome o → x.0 < clear_base) [
+      | None ↦ λ q some. absurd (false≢true some)
+      | Some e ↦ λ q some.
+          let made = All-in FileEntry (λ (e : FileEntry). (1 ≤ e.id) × (e.id ≤ tree.files_made)) tree.files e is.files_made (file_in tree x.0 e q) in
+          let last = made.1 in let same = file_id tree x.0 e q in omega (arith, last, same, low)
+    ]) refl (found_stands tree n path (File x) at)
+
+pub number_told : (tree : Store) (n : Titles) → IsTree tree → tree.files_made < clear_base → {r : Request} {target : Target} → IsTargetOf (tree_store tree n) r target → HasNumber target
+number_told tree n is low AddsHolder = tt
+number_told tree n is low (MakesFolder place named) = tt
+number_told tree n is low (WritesFile place at named) = tt
+number_told tree n is low (Removes at) = tt
+number_told tree n is low (Renames at) = tt
+number_told tree n is low (Relocates at to) = tt
+number_told tree n is low (Grants {path = path} {node = node} at) = numbered tree n path node is low at
+number_told tree n is low (Revokes {path = path} {node = node} at) = numbered tree n path node is low at
 
 -- ---- its text
 

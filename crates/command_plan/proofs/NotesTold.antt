@@ -1,7 +1,7 @@
 -- The note of a command in a store, from the tree, its names and the grants that are kept of it.
 use Rattle.std.proofs.Common.{◌≡◌, ℕ, ◌+◌, List, length, Option, Some, None, refl, sym, ap, ◌∙◌}
 use Rattle.cry_base.specs.Naming.{parent_path}
-use Rattle.cry_base.specs.Refusing.{id_of}
+use Rattle.cry_base.specs.Refusing.{granted_id, id_of}
 use Rattle.cry_base.specs.Requests.{Request}
 use Rattle.cry_base.specs.Requests.Request.{AddHolder, MakeFolder, WriteFile, Remove, Rename, Relocate, Grant, Revoke}
 use Rattle.cry_base.specs.Store.{Store, node_at}
@@ -58,10 +58,10 @@ module _ (tree : Store) (n : Titles) (g : Granted) (s : Store) (is : IsStoreOf t
   shift_note path into e =
       on (move_note (node_at (tree_store tree n) path) (id_of (node_at (tree_store tree n) into))) (Relocate path into) e (λ i. move_note (same path i) (id_of (same into i)))
 
-  pub grant_note : (h : ℕ) (path : List ℕ) → r ≡ Grant h path → Give h (id_of (node_at (tree_store tree n) path)) ≡ note_of s r check
+  pub grant_note : (h : ℕ) (path : List ℕ) → r ≡ Grant h path → Give h (granted_id (node_at (tree_store tree n) path)) ≡ note_of s r check
   unfolding note_of
-  grant_note h path e = on (Give h (id_of (node_at (tree_store tree n) path))) (Grant h path) e (ap (λ o. Give h (id_of o)) (same path))
+  grant_note h path e = on (Give h (granted_id (node_at (tree_store tree n) path))) (Grant h path) e (ap (λ o. Give h (granted_id o)) (same path))
 
-  pub revoke_note : (h : ℕ) (path : List ℕ) → r ≡ Revoke h path → Take h (id_of (node_at (tree_store tree n) path)) ≡ note_of s r check
+  pub revoke_note : (h : ℕ) (path : List ℕ) → r ≡ Revoke h path → Take h (granted_id (node_at (tree_store tree n) path)) ≡ note_of s r check
   unfolding note_of
-  revoke_note h path e = on (Take h (id_of (node_at (tree_store tree n) path))) (Revoke h path) e (ap (λ o. Take h (id_of o)) (same path))
+  revoke_note h path e = on (Take h (granted_id (node_at (tree_store tree n) path))) (Revoke h path) e (ap (λ o. Take h (granted_id o)) (same path))

@@ -1,5 +1,7 @@
 //! The note of a command, from what it found.
 ghost use Rattle.std.specs.Prelude.{◌≡◌, ◌<◌, Some, length, replicate};
+ghost use Rattle.cry_base.specs.Clearances.{clear_base};
+ghost use Rattle.cry_base.specs.Refusing.{granted_id};
 ghost use Rattle.cry_base.specs.Requests.{Request};
 ghost use Rattle.cry_base.specs.Store.{Store};
 ghost use Rattle.folder_nodes.specs.Targets.{IsTargetOf, file_found};
@@ -7,11 +9,11 @@ ghost use Rattle.folder_nodes.specs.Titles.{Titles, tree_store};
 ghost use Rattle.journal_bytes.specs.Owning.{IsStoreOf};
 ghost use Rattle.move_plan.specs.Noting.{move_note, note_of, remove_note, rename_note, write_note};
 ghost use Rattle.record_format.specs.Told.{told_note};
-ghost use Rattle.command_plan.specs.Targeted.{note_to as the_note_to};
+ghost use Rattle.command_plan.specs.Targeted.{HasNumber, IsNumbered, note_to as the_note_to};
 
 use cry_base::{FileId, FolderId, HolderId, Node};
 use folder_nodes::{Shape, Target};
-use grant_book::Grants;
+use grant_book::{Grants, clear_number};
 use record_format::Note;
 
 /// The check of a holder whose key isn't drawn yet.
@@ -20,17 +22,20 @@ const NO_CHECK: [u8; 32] = [0; 32];
 /// The note of a command with this target, in any store whose tree and grants these are. A new holder's check is all zeros in it,
 /// until the key is drawn. It takes no memory.
 pub fn note_for(shape: &Shape, grants: &Grants, target: &Target<'_>) -> Note
+    requires found { (names : Titles) × (r : Request) × IsTargetOf (tree_store shape.now.tree names) r target.now }
     requires folders { shape.now.tree.folders_made < 4294967295 }
-    requires files { shape.now.tree.files_made < 4294967295 }
+    requires files { shape.now.tree.files_made < clear_base }
     requires holders { length grants.now.checks < 4294967295 }
     ensures { (names : Titles) (r : Request) → IsTargetOf (tree_store shape.now.tree names) r target.now
         → (s : Store) → IsStoreOf shape.now.tree names grants.now s → told_note result ≡ note_of s r (replicate 32 0) }
 {
+    shape.is_tree();
     note_to(shape, grants, target)
 }
 
 #[tactic(auto, unfolding(record_format::specs::Told::told_note))]
 fn note_to(shape: &Shape, grants: &Grants, target: &Target<'_>) -> Note
+    requires numbered { HasNumber target.now }
     requires folders { shape.now.tree.folders_made < 4294967295 }
     requires files { shape.now.tree.files_made < 4294967295 }
     requires holders { length grants.now.checks < 4294967295 }
@@ -49,8 +54,26 @@ fn note_to(shape: &Shape, grants: &Grants, target: &Target<'_>) -> Note
         Target::Remove { node } => note_of_removal(node),
         Target::Rename { node, .. } => note_of_name(node),
         Target::Relocate { node, into } => note_of_move(node, into),
-        Target::Grant { holder, folder } => Note::Give { holder, folder },
-        Target::Revoke { holder, folder } => Note::Take { holder, folder },
+        Target::Grant { holder, node } => Note::Give {
+            holder,
+            folder: number_of(node),
+        },
+        Target::Revoke { holder, node } => Note::Take {
+            holder,
+            folder: number_of(node),
+        },
+    }
+}
+
+/// The number by which grants name the folder or the file.
+#[tactic(auto, unfolding(cry_base::specs::Refusing::granted_id))]
+pub(crate) fn number_of(node: Node) -> FolderId
+    requires { IsNumbered node }
+    ensures { result.0 ≡ granted_id (Some node) }
+{
+    match node {
+        Node::Folder(folder) => folder,
+        Node::File(file) => clear_number(file),
     }
 }
 

@@ -1,7 +1,7 @@
 -- A command that fits into a store draws few keys: each renewed role is the end of a link that its payload has.
 use Rattle.std.proofs.Common.{◌≡◌, ℕ, ◌+◌, ◌*◌, ◌≤◌, ◌<◌, Bool, false, List, [], ◌∷◌, ◌++◌, length, replicate, None, arith, length-append}
 use Rattle.cry_base.specs.Limits.{most_store_bytes}
-use Rattle.cry_base.specs.Refusing.{refusal_of}
+use Rattle.cry_base.specs.Refusing.{refusal_in}
 use Rattle.cry_base.specs.Requests.{Request}
 use Rattle.cry_base.specs.Stepping.{effect}
 use Rattle.role_graph.specs.Edges.{edges}
@@ -12,13 +12,13 @@ use Rattle.public_fold.specs.Keyed.{links_of}
 use Rattle.public_fold.specs.KeyStep.{published_edges, renewed, is_strict}
 use Rattle.public_fold.specs.Preparing.{begun_keys}
 use Rattle.public_fold.specs.Valid.{IsValid}
-use Rattle.public_fold.proofs.KeyMoves.{command_moves, journal_holds}
+use Rattle.public_fold.proofs.KeyMoves.{command_moves, journal_holds, journal_sound}
+use Rattle.public_fold.proofs.Numbers.{journal_numbers}
 use Rattle.public_fold.proofs.SerialsKept.{few_fresh, plan_short}
 use Rattle.journal_bytes.specs.Script.{draws_of, due_end, due_payload}
 use Rattle.journal_bytes.proofs.NextEntry.{due, given_many, links_many, payload_due}
-use Rattle.journal_bytes.proofs.Sealable.{begun_sound}
 
-pub few_draws : (m : Journal) (has_begun : Bool) (r : Request) (file_bytes : ℕ) → IsValid m → refusal_of (store_of m) r file_bytes ≡ None → due_end m has_begun r ≤ most_store_bytes → 32 * draws_of m r < 4294967296
+pub few_draws : (m : Journal) (has_begun : Bool) (r : Request) (file_bytes : ℕ) → IsValid m → refusal_in (is_strict (keys_of m)) (store_of m) r file_bytes ≡ None → due_end m has_begun r ≤ most_store_bytes → 32 * draws_of m r < 4294967296
 unfolding draws_of due_end due_payload entry_step note_step store_of keys_of steps_of begun_keys first_key
 few_draws m has_begun r file_bytes valid none low =
     let at = stand_after nothing m in
@@ -29,7 +29,7 @@ few_draws m has_begun r file_bytes valid none low =
     let p = renewed at.keys (edges s) c in
     let es = published_edges (edges s) c p in
     let short : length p ≤ length es =
-    plan_short s (effect s r []) at.keys c (links_of (steps_of m)) (command_moves strict s r [] [] file_bytes none (begun_sound m valid.0)) (journal_holds m valid)
+    plan_short s (effect s r []) at.keys c (links_of (steps_of m)) (command_moves strict s r [] [] file_bytes none (journal_numbers m valid) (journal_sound m valid)) (journal_holds m valid)
     in
     let joined : length (p ++ c.fresh) ≡ length p + length c.fresh = length-append p c.fresh in
     let fresh = few_fresh strict s (note_of s r []) in

@@ -11,8 +11,9 @@ use Rattle.commit_journal.specs.Answering.{Damaged, and_then}
 use Rattle.commit_journal.specs.Laws.{batch_of, placed_from}
 use Rattle.commit_journal.specs.Placed.{PlainBody, PlainPlaced, Commands}
 use Rattle.cry_base.specs.Layout.{batch_len, header_len}
-use Rattle.cry_base.specs.Limits.{most_file_bytes}
-use Rattle.cry_base.specs.Refusing.{refusal_of}
+use Rattle.cry_base.specs.Limits.{most_file_bytes, most_store_bytes}
+use Rattle.cry_base.specs.Refusing.{refusal_in, refusal_of}
+use Rattle.cry_base.proofs.Versions.{accepted_in}
 use Rattle.cry_base.specs.Requests.{Request}
 use Rattle.cry_base.specs.Requests.Request.{AddHolder, MakeFolder, WriteFile, Remove, Rename, Relocate, Grant, Revoke}
 use Rattle.cry_base.specs.Sets.{In}
@@ -38,14 +39,15 @@ use Rattle.public_fold.specs.Heads.{content_head, is_content_of}
 use Rattle.public_fold.specs.Journal.{Entry, Journal, Stand, nothing, first_key, note_step, entry_step, entry_store, stand_then, stand_after, store_of, keys_of, root_note}
 use Rattle.public_fold.specs.Journal.Entry.{Session, Made, Did, Upgraded}
 use Rattle.public_fold.specs.KeyStep.{KeyState, Stepped, given, key_step, keys_then, next_serial, published, published_edges, renewed, step_with, is_strict}
+use Rattle.public_fold.specs.Lengths.{end_of}
 use Rattle.public_fold.specs.Records.{Content, Link, Piece, pieces_of, text_of}
 use Rattle.public_fold.specs.StandFits.{all_fit, entry_fits, has_count, note_fits}
 use Rattle.public_fold.specs.Told.{told_store}
 use Rattle.public_fold.specs.Valid.{BeginsWell, FollowOn, IsValid}
-use Rattle.public_fold.proofs.Accepting.{accepted}
 use Rattle.public_fold.proofs.AllFit.{journal_all_fit}
 use Rattle.public_fold.proofs.KeyMoves.{IsSound, effect_sound, root_sound}
 use Rattle.public_fold.proofs.NotesFit as notes
+use Rattle.public_fold.proofs.Numbers.{HasNumbers, IsWithin, numbers_below, within_did, within_made, within_session, within_upgraded}
 use Rattle.public_fold.proofs.Serials.{numbered-length}
 use Rattle.journal_bytes.specs.Bytes as bytes
 use Rattle.journal_bytes.specs.Bytes.{bodies_from, bodies_of, content_record, entry_body, link_record, step_payload}
@@ -203,30 +205,31 @@ command_contents at r drawn sound short none size =
     pieces_sized at.keys (edges at.store) (change_of (is_strict at.keys) at.store note) (pieces_of note (effect at.store r (first_key drawn)))
     (command_sized at.store r (first_key drawn) [] sound short none size)
 
-command_fits : (at : Stand) (r : Request) (check : List ℕ) (drawn : List (List ℕ)) (told : Stepped) → IsSound at.store → refusal_of at.store r most_file_bytes ≡ None → entry_fits at (Did r drawn) ≡ true
+command_fits : (at : Stand) (r : Request) (check : List ℕ) (drawn : List (List ℕ)) (told : Stepped) → IsSound at.store → HasNumbers at.store → refusal_in (is_strict at.keys) at.store r most_file_bytes ≡ None → entry_fits at (Did r drawn) ≡ true
     → told.after ≡ (entry_step at (Did r drawn)).after → note_fits (shown at) (note_of at.store r check) told ≡ true
 unfolding entry_fits note_fits has_count
-command_fits at r check drawn told sound none fit same =
+command_fits at r check drawn told sound few none fit same =
     let s = at.store in
     let note = note_of s r check in
     let strict = is_strict at.keys in
     let step = entry_step at (Did r drawn) in
     let one = and_parts (nat_lt 0 at.keys.epoch) (fits strict s (note_of s r []) && nat_lt step.after.count (2 ^ 32 - 1)) fit in
     let two = and_parts (fits strict s (note_of s r [])) (nat_lt step.after.count (2 ^ 32 - 1)) one.1 in
-    let here : fits strict (public_of s) note ≡ true = fits_seen strict s note ∙ notes.rest_fits strict s note sound.tree (notes.note_fits strict s r check sound.tree (accepted s r most_file_bytes none)) in
+    let here : fits strict (public_of s) note ≡ true = fits_seen strict s note ∙ notes.accepted_fits strict s r check most_file_bytes none few sound.tree in
     and_from (nat_lt 0 at.keys.epoch) (fits strict (public_of s) note && nat_lt told.after.count (2 ^ 32 - 1)) one.0
     (and_from (fits strict (public_of s) note) (nat_lt told.after.count (2 ^ 32 - 1)) here (ap (λ (k : KeyState). nat_lt k.count (2 ^ 32 - 1)) same ∙ two.1))
 
-command_behind : (at : Stand) (place : ℕ) (keys : List KeyParts) (r : Request) (drawn : List (List ℕ)) → IsSound at.store → AreShort at.store → refusal_of at.store r most_file_bytes ≡ None → entry_fits at (Did r drawn) ≡ true
+command_behind : (at : Stand) (place : ℕ) (keys : List KeyParts) (r : Request) (drawn : List (List ℕ)) → IsSound at.store → HasNumbers at.store → AreShort at.store → refusal_in (is_strict at.keys) at.store r most_file_bytes ≡ None → entry_fits at (Did r drawn) ≡ true
     → HasKeySize r (first_key drawn) → stand_behind (shown at) place (entry_body keys at (Did r drawn)) ≡ Ok (shown (stand_then at (Did r drawn)))
 unfolding entry_body stand_then entry_store told_stand
-command_behind at place keys r drawn sound short none fit size =
+command_behind at place keys r drawn sound few short none fit size =
     let s = at.store in
+    let taken = accepted_in (is_strict at.keys) s r most_file_bytes none in
     let check = check_of (first_key drawn) in
     let note = note_of s r check in
-    let told_is = told_command at r check drawn most_file_bytes none in
-    behind_step (shown at) place keys note (entry_step at (Did r drawn)) told_is (command_fits at r check drawn (told_step (shown at) note) sound none fit told_is.after) (command_contents at r drawn sound short none size)
-    ∙ (λ i. Ok (record { store = sym (accepted_told s r (first_key drawn) check most_file_bytes none) i; keys = told_is.after i }))
+    let told_is = told_command at r check drawn most_file_bytes taken in
+    behind_step (shown at) place keys note (entry_step at (Did r drawn)) told_is (command_fits at r check drawn (told_step (shown at) note) sound few none fit told_is.after) (command_contents at r drawn sound short taken size)
+    ∙ (λ i. Ok (record { store = sym (accepted_told s r (first_key drawn) check most_file_bytes taken) i; keys = told_is.after i }))
 
 -- a new holder's key is one of those drawn
 holder_given : (at : Stand) (drawn : List (List ℕ)) → 1 ≤ length (entry_step at (Did AddHolder drawn)).given
@@ -353,29 +356,29 @@ drawn_sizes : (r : Request) (drawn : List (List ℕ)) → Sized (Did r drawn) �
 unfolding drawn_by
 drawn_sizes r drawn sizes = sizes
 
-did_sound : (at : Stand) (r : Request) (drawn : List (List ℕ)) → refusal_of at.store r most_file_bytes ≡ None → IsSound at.store → IsSound (stand_then at (Did r drawn)).store
+did_sound : (at : Stand) (r : Request) (drawn : List (List ℕ)) → refusal_in (is_strict at.keys) at.store r most_file_bytes ≡ None → HasNumbers at.store → IsSound at.store → IsSound (stand_then at (Did r drawn)).store
 unfolding stand_then entry_store
-did_sound at r drawn none sound = effect_sound at.store r (first_key drawn) most_file_bytes none sound
+did_sound at r drawn none few sound = effect_sound (is_strict at.keys) at.store r (first_key drawn) most_file_bytes none few sound
 
-did_short : (at : Stand) (r : Request) (drawn : List (List ℕ)) → refusal_of at.store r most_file_bytes ≡ None → AreShort at.store → AreShort (stand_then at (Did r drawn)).store
+did_short : (at : Stand) (r : Request) (drawn : List (List ℕ)) → refusal_in (is_strict at.keys) at.store r most_file_bytes ≡ None → AreShort at.store → AreShort (stand_then at (Did r drawn)).store
 unfolding stand_then entry_store
-did_short at r drawn none short = effect_short at.store r (first_key drawn) none short
+did_short at r drawn none short = effect_short at.store r (first_key drawn) (accepted_in (is_strict at.keys) at.store r most_file_bytes none) short
 
-follows : (keys : List KeyParts) (entries : List Entry) (at : Stand) (place number epoch : ℕ) → IsSound at.store → AreShort at.store → FollowOn at entries → all_fit at entries ≡ true → All Sized entries
+follows : (keys : List KeyParts) (entries : List Entry) (at : Stand) (place number epoch : ℕ) → IsSound at.store → IsWithin at entries → AreShort at.store → FollowOn at entries → all_fit at entries ≡ true → All Sized entries
     → folded (shown at) (placed_from place number epoch (bodies_from keys at entries)) ≡ Ok (shown (stand_after at entries))
 unfolding folded bodies_from stand_after all_fit
-follows keys [] at place number epoch sound short follow fit sizes = refl
-follows keys (Session ∷ entries) at place number epoch sound short follow fit sizes =
+follows keys [] at place number epoch sound few short follow fit sizes = refl
+follows keys (Session ∷ entries) at place number epoch sound few short follow fit sizes =
     let later = bytes.keys_then keys at Session in
     let body = entry_body later at Session in
     let batch = batch_of number epoch body in
     let next = stand_then at Session in
     let log = placed_from (place + (batch_len + length batch.payload)) batch.number batch.epoch (bodies_from later next entries) in
     next_behind (shown at) (shown next) (place + 45) body log (shown (stand_after next entries)) (session_behind at (place + 45) later)
-    (follows later entries next (place + (batch_len + length batch.payload)) batch.number batch.epoch (session_sound at sound) (session_short at short) follow.1
+    (follows later entries next (place + (batch_len + length batch.payload)) batch.number batch.epoch (session_sound at sound) (within_session at entries few) (session_short at short) follow.1
     (and_parts (entry_fits at Session) (all_fit next entries) fit).1 (All-tail Sized Session entries sizes))
-follows keys (Made version drawn ∷ entries) at place number epoch sound short follow fit sizes = absurd follow.0
-follows keys (Did r drawn ∷ entries) at place number epoch sound short follow fit sizes =
+follows keys (Made version drawn ∷ entries) at place number epoch sound few short follow fit sizes = absurd follow.0
+follows keys (Did r drawn ∷ entries) at place number epoch sound few short follow fit sizes =
     let later = bytes.keys_then keys at (Did r drawn) in
     let body = entry_body later at (Did r drawn) in
     let batch = batch_of number epoch body in
@@ -383,10 +386,10 @@ follows keys (Did r drawn ∷ entries) at place number epoch sound short follow 
     let log = placed_from (place + (batch_len + length batch.payload)) batch.number batch.epoch (bodies_from later next entries) in
     let fits_both = and_parts (entry_fits at (Did r drawn)) (all_fit next entries) fit in
     let size = key_sized at r drawn follow.0.1 (drawn_sizes r drawn (All-head Sized (Did r drawn) entries sizes)) in
-    next_behind (shown at) (shown next) (place + 45) body log (shown (stand_after next entries)) (command_behind at (place + 45) later r drawn sound short follow.0.0 fits_both.0 size)
-    (follows later entries next (place + (batch_len + length batch.payload)) batch.number batch.epoch (did_sound at r drawn follow.0.0 sound) (did_short at r drawn follow.0.0 short) follow.1
+    next_behind (shown at) (shown next) (place + 45) body log (shown (stand_after next entries)) (command_behind at (place + 45) later r drawn sound (numbers_below at (Did r drawn) entries few) short follow.0.0 fits_both.0 size)
+    (follows later entries next (place + (batch_len + length batch.payload)) batch.number batch.epoch (did_sound at r drawn follow.0.0 (numbers_below at (Did r drawn) entries few) sound) (within_did at r drawn entries few) (did_short at r drawn follow.0.0 short) follow.1
     fits_both.1 (All-tail Sized (Did r drawn) entries sizes))
-follows keys (Upgraded drawn ∷ entries) at place number epoch sound short follow fit sizes =
+follows keys (Upgraded drawn ∷ entries) at place number epoch sound few short follow fit sizes =
     let later = bytes.keys_then keys at (Upgraded drawn) in
     let body = entry_body later at (Upgraded drawn) in
     let batch = batch_of number epoch body in
@@ -394,7 +397,7 @@ follows keys (Upgraded drawn ∷ entries) at place number epoch sound short foll
     let log = placed_from (place + (batch_len + length batch.payload)) batch.number batch.epoch (bodies_from later next entries) in
     let fits_both = and_parts (entry_fits at (Upgraded drawn)) (all_fit next entries) fit in
     next_behind (shown at) (shown next) (place + 45) body log (shown (stand_after next entries)) (upgraded_behind at (place + 45) later drawn fits_both.0)
-    (follows later entries next (place + (batch_len + length batch.payload)) batch.number batch.epoch (upgraded_sound at drawn sound) (upgraded_short at drawn short) follow.1
+    (follows later entries next (place + (batch_len + length batch.payload)) batch.number batch.epoch (upgraded_sound at drawn sound) (within_upgraded at drawn entries few) (upgraded_short at drawn short) follow.1
     fits_both.1 (All-tail Sized (Upgraded drawn) entries sizes))
 
 first_shown : shown nothing ≡ nothing
@@ -409,12 +412,12 @@ made_short : (version : ℕ) (drawn : List (List ℕ)) → AreShort (stand_then 
 unfolding stand_then entry_store
 made_short version drawn = root_short
 
-begins : (keys : List KeyParts) (m : Journal) → BeginsWell m → all_fit nothing m ≡ true → All Sized m → folded (shown nothing) (placed_from header_len 0 0 (bodies_from keys nothing m)) ≡ Ok (shown (stand_after nothing m))
+begins : (keys : List KeyParts) (m : Journal) → BeginsWell m → end_of m ≤ most_store_bytes → all_fit nothing m ≡ true → All Sized m → folded (shown nothing) (placed_from header_len 0 0 (bodies_from keys nothing m)) ≡ Ok (shown (stand_after nothing m))
 unfolding folded bodies_from stand_after all_fit
-begins keys [] b fit sizes = absurd b
-begins keys (Session ∷ []) b fit sizes = absurd b
-begins keys (Session ∷ Session ∷ es) b fit sizes = absurd b
-begins keys (Session ∷ Made version drawn ∷ es) b fit sizes =
+begins keys [] b low fit sizes = absurd b
+begins keys (Session ∷ []) b low fit sizes = absurd b
+begins keys (Session ∷ Session ∷ es) b low fit sizes = absurd b
+begins keys (Session ∷ Made version drawn ∷ es) b low fit sizes =
     let first = bytes.keys_then keys nothing Session in
     let body = entry_body first nothing Session in
     let batch = batch_of 0 0 body in
@@ -429,15 +432,15 @@ begins keys (Session ∷ Made version drawn ∷ es) b fit sizes =
     let rest = All-tail Sized Session (Made version drawn ∷ es) sizes in
     next_behind (shown nothing) (shown begun) (header_len + 45) body (placed_from place batch.number batch.epoch (made ∷ bodies_from later next es)) (shown (stand_after next es)) (session_behind nothing (header_len + 45) first)
     (next_behind (shown begun) (shown next) (place + 45) made log (shown (stand_after next es)) (made_behind (place + 45) later version drawn inner.0)
-    (follows later es next (place + (batch_len + length second.payload)) second.number second.epoch (made_sound version drawn) (made_short version drawn) b.1 inner.1 (All-tail Sized (Made version drawn) es rest)))
-begins keys (Session ∷ Did request drawn ∷ es) b fit sizes = absurd b
-begins keys (Session ∷ Upgraded drawn ∷ es) b fit sizes = absurd b
-begins keys (Made version drawn ∷ es) b fit sizes = absurd b
-begins keys (Did request drawn ∷ es) b fit sizes = absurd b
-begins keys (Upgraded drawn ∷ es) b fit sizes = absurd b
+    (follows later es next (place + (batch_len + length second.payload)) second.number second.epoch (made_sound version drawn) (within_made version drawn es low) (made_short version drawn) b.1 inner.1 (All-tail Sized (Made version drawn) es rest)))
+begins keys (Session ∷ Did request drawn ∷ es) b low fit sizes = absurd b
+begins keys (Session ∷ Upgraded drawn ∷ es) b low fit sizes = absurd b
+begins keys (Made version drawn ∷ es) b low fit sizes = absurd b
+begins keys (Did request drawn ∷ es) b low fit sizes = absurd b
+begins keys (Upgraded drawn ∷ es) b low fit sizes = absurd b
 
 pub journal_followed : (owner : List ℕ) (m : Journal) → IsValid m → AreWhole owner m → fold_of owner m ≡ Ok (public_stand m)
 unfolding fold_of log_of bodies_of public_stand store_of keys_of
 journal_followed owner m valid whole =
     ap (λ z. folded z (placed_from header_len 0 0 (bodies_from (owner_parts owner ∷ []) nothing m))) (sym first_shown)
-    ∙ begins (owner_parts owner ∷ []) m valid.0 (journal_all_fit m valid) whole.drawn_sizes
+    ∙ begins (owner_parts owner ∷ []) m valid.0 valid.1 (journal_all_fit m valid) whole.drawn_sizes

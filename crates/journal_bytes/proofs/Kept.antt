@@ -2,8 +2,10 @@
 use Rattle.std.proofs.Common.{◌≡◌, ◌⊎◌, ⊎_elim, inl, inr, ℕ, ◌+◌, ◌≤◌, Bool, true, false, cond, not, ◌==◌, ◌||◌, List, [], ◌∷◌, ◌++◌, Option, Some, None, arith, refl, sym, ap, subst, ◌∙◌}
 use Rattle.std.specs.Prelude.{is_none}
 use Rattle.std.proofs.lemmas.Bool.{eq-eqb, eqb-true, false≢true, or_parts}
+use Rattle.cry_base.specs.Clearances.{clear_number}
+use Rattle.cry_base.specs.Clearances as clearances
 use Rattle.cry_base.specs.Naming.{last_name, names_of, parent_path}
-use Rattle.cry_base.specs.Refusing.{finds_no_path, id_of, is_folder, writes_folder}
+use Rattle.cry_base.specs.Refusing.{finds_no_path, granted_id, id_of, is_folder, writes_folder}
 use Rattle.cry_base.specs.Requests.{Request, paths_of}
 use Rattle.cry_base.specs.Requests.Request.{AddHolder, MakeFolder, WriteFile, Remove, Rename, Relocate, Grant, Revoke}
 use Rattle.cry_base.specs.Sets.{In}
@@ -13,9 +15,10 @@ use Rattle.cry_base.specs.declared.roles.Node.{Node}
 use Rattle.cry_base.specs.declared.roles.Node.TheVariants.{Folder, File}
 use Rattle.cry_base.specs.declared.roles.Role.{Role}
 use Rattle.cry_base.proofs.Members.{In-append, In-filter, In-map}
-use Rattle.move_plan.specs.Change.{change_of, no_change, root_change, row_change}
+use Rattle.move_plan.specs.Change.{Change, change_of, clearance_in, edges_of_first, given_on, no_change, root_change, row_change, taken_from, without_roles}
 use Rattle.move_plan.specs.Noting.{move_note, note_of, remove_note, rename_note, write_note}
 use Rattle.record_format.specs.Noted.Note.{Root, NewHolder, NewFolder, NewFile, Give, Take, Upgrade}
+use Rattle.role_graph.specs.Edges.{grant_edge, has_grants}
 use Rattle.role_graph.specs.Roles.{back_of, clear_of, data_of, file_role, files_of, role_id, sub_of, variant_of}
 use Rattle.public_fold.specs.Counted.{AreCounted}
 use Rattle.public_fold.specs.Records.{Piece, file_piece, folder_piece, holder_piece, pieces_of, text_of}
@@ -286,7 +289,7 @@ written s path bytes (Some (Folder g)) f counted file tree = absurd (false≢tru
 written s path bytes (Some (File x)) f counted file tree = file_set s x.0 (λ e. record e { bytes = bytes }) (λ e. refl) tree
 
 removed : (s : Store) (o : Option Node) → is_none o ≡ false → IsKept s (without_node s o) (row_change s (remove_note o)).wanted (pieces_of (remove_note o) (without_node s o))
-unfolding remove_note pieces_of without_node row_change no_change without_folder without_file
+unfolding remove_note pieces_of without_node row_change without_roles no_change without_folder without_file
 removed s None some = absurd (false≢true (sym some))
 removed s (Some (Folder f)) some =
     unsealed s (without_folder s f.0) [] (λ g. none_wanted (data_of g)) (λ x. none_wanted (file_role x))
@@ -304,26 +307,58 @@ renamed s (Some (File x)) name some tree = file_set s x.0 (λ e. record e { name
 two_apart : (a b c : Role) → (variant_of a == variant_of b) ≡ false → (variant_of a == variant_of c) ≡ false → In a (b ∷ c ∷ []) → ⊥
 two_apart a b c t u i = ⊎_elim (λ (e : a ≡ b). apart a b t (inl e)) (λ j. apart a c u j) i
 
+-- neither a file's clearance nor the files of a folder is a sealing key's role
+cond_apart : (a : Role) (b : Bool) (xs ys : List Role) → (In a xs → ⊥) → (In a ys → ⊥) → In a (cond b xs ys) → ⊥
+cond_apart a true xs ys first second i = first i
+cond_apart a false xs ys first second i = second i
+
+move_apart : (s : Store) (x into : ℕ) (a : Role) → (variant_of a == variant_of (files_of into)) ≡ false → (variant_of a == variant_of (clear_of (clear_number x))) ≡ false
+    → In a (files_of into ∷ clearance_in s x) → ⊥
+unfolding clearance_in
+move_apart s x into a t u i = ⊎_elim
+    (λ (e : a ≡ files_of into). apart a (files_of into) t (inl e))
+    (λ j. cond_apart a (has_grants s (clear_number x)) (clear_of (clear_number x) ∷ []) [] (apart a (clear_of (clear_number x)) u) (none_wanted a) j)
+    i
+
+change_apart : (a : Role) (b : Bool) (c d : Change) → (In a c.wanted → ⊥) → (In a d.wanted → ⊥) → In a (cond b c d).wanted → ⊥
+change_apart a true c d first second i = first i
+change_apart a false c d first second i = second i
+
+given_apart : (s : Store) (h f : ℕ) (a : Role) (file : Option ℕ) → In a (given_on s h f file).wanted → ⊥
+unfolding given_on no_change
+given_apart s h f a None i = i
+given_apart s h f a (Some x) i =
+    change_apart a (has_grants s f) (record no_change { added = grant_edge h f ∷ [] }) (record no_change { fresh = clear_of f ∷ []; added = edges_of_first s h x }) (none_wanted a) (none_wanted a) i
+
+taken_apart : (s : Store) (h f : ℕ) (a : Role) → (variant_of a == variant_of (clear_of f)) ≡ false → (file : Option ℕ) → In a (taken_from s h f file).wanted → ⊥
+unfolding taken_from without_roles no_change
+taken_apart s h f a t None i = apart a (clear_of f) t i
+taken_apart s h f a t (Some x) i =
+    change_apart a (has_grants (without_grant s h f) f) (record no_change { removed = grant_edge h f ∷ []; wanted = clear_of f ∷ [] }) (without_roles s (clear_of f ∷ [])) (apart a (clear_of f) t) (none_wanted a) i
+
 shifted : (s : Store) (o : Option Node) (into : ℕ) → is_none o ≡ false → IsKept s (moved s o into) (row_change s (move_note o into)).wanted (pieces_of (move_note o into) (moved s o into))
-unfolding move_note pieces_of moved row_change no_change data_of file_role files_of sub_of back_of variant_of
+unfolding move_note pieces_of moved row_change no_change data_of file_role files_of sub_of back_of clear_of variant_of
 shifted s None into some = absurd (false≢true (sym some))
 shifted s (Some (Folder g)) into some =
     unsealed s (with_folder s g.0 (λ e. record e { parent = into })) (sub_of into ∷ back_of g.0 ∷ [])
     (λ f. two_apart (data_of f) (sub_of into) (back_of g.0) refl refl) (λ x. two_apart (file_role x) (sub_of into) (back_of g.0) refl refl)
     (folder_shifted s g.0 into) (λ e i. file_same s e (unfold with_folder in i)) (λ e i. unfold with_folder in i)
 shifted s (Some (File x)) into some =
-    unsealed s (with_file s x.0 (λ e. record e { folder = into })) (files_of into ∷ [])
-    (λ f. apart (data_of f) (files_of into) refl) (λ y. apart (file_role y) (files_of into) refl)
+    unsealed s (with_file s x.0 (λ e. record e { folder = into })) (files_of into ∷ clearance_in s x.0)
+    (λ f. move_apart s x.0 into (data_of f) refl refl) (λ y. move_apart s x.0 into (file_role y) refl refl)
     (λ e i. folder_same s e (unfold with_file in i)) (file_shifted s x.0 into) (λ e i. unfold with_file in i)
 
 granted : (s : Store) (h f : ℕ) → IsKept s (record s { grants = s.grants ++ record { holder = h; folder = f } ∷ [] }) (row_change s (Give h f)).wanted []
-unfolding row_change no_change
-granted s h f = unsealed s (record s { grants = s.grants ++ record { holder = h; folder = f } ∷ [] }) [] (λ g. none_wanted (data_of g)) (λ x. none_wanted (file_role x)) (folder_same s) (file_same s) (λ e i. i)
+unfolding row_change
+granted s h f =
+    unsealed s (record s { grants = s.grants ++ record { holder = h; folder = f } ∷ [] }) (given_on s h f (clearances.file_of f)).wanted
+    (λ g. given_apart s h f (data_of g) (clearances.file_of f)) (λ x. given_apart s h f (file_role x) (clearances.file_of f)) (folder_same s) (file_same s) (λ e i. i)
 
 revoked : (s : Store) (h f : ℕ) → IsKept s (without_grant s h f) (row_change s (Take h f)).wanted []
-unfolding row_change no_change without_grant data_of file_role clear_of variant_of
+unfolding row_change without_grant data_of file_role clear_of variant_of
 revoked s h f =
-    unsealed s (without_grant s h f) (clear_of f ∷ []) (λ g. apart (data_of g) (clear_of f) refl) (λ x. apart (file_role x) (clear_of f) refl) (folder_same s) (file_same s) (λ e i. i)
+    unsealed s (without_grant s h f) (taken_from s h f (clearances.file_of f)).wanted
+    (λ g. taken_apart s h f (data_of g) refl (clearances.file_of f)) (λ x. taken_apart s h f (file_role x) refl (clearances.file_of f)) (folder_same s) (file_same s) (λ e i. i)
 
 -- an upgrade changes none of it
 pub upgrade_kept : (strict : Bool) (s : Store) → IsKept s s (change_of strict s Upgrade).wanted (pieces_of Upgrade s)
@@ -342,8 +377,8 @@ command_kept s (Remove path) key a counted tree = removed s (node_at s path) (or
 command_kept s (Rename path name) key a counted tree = renamed s (node_at s path) name (or_parts (is_none (node_at s path)) false a.finds_path).0 tree
 command_kept s (Relocate path into) key a counted tree =
     shifted s (node_at s path) (id_of (node_at s into)) (or_parts (is_none (node_at s path)) (is_none (node_at s into) || false) a.finds_path).0
-command_kept s (Grant h path) key a counted tree = granted s h (id_of (node_at s path))
-command_kept s (Revoke h path) key a counted tree = revoked s h (id_of (node_at s path))
+command_kept s (Grant h path) key a counted tree = granted s h (granted_id (node_at s path))
+command_kept s (Revoke h path) key a counted tree = revoked s h (granted_id (node_at s path))
 
 -- a holder that stands after a command stood before it, or is made by it
 abbrev pub HolderStood : Store → Request → List ℕ → HolderEntry → Type 0

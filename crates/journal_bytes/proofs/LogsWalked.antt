@@ -8,8 +8,9 @@ use Rattle.commit_journal.specs.Laws.{batch_of, placed_from}
 use Rattle.commit_journal.specs.Placed.{PlainPlaced}
 use Rattle.commit_journal.specs.Places.{content_offset, link_offset}
 use Rattle.cry_base.specs.Layout.{batch_len, header_len}
-use Rattle.cry_base.specs.Limits.{most_file_bytes}
-use Rattle.cry_base.specs.Refusing.{refusal_of}
+use Rattle.cry_base.specs.Limits.{most_file_bytes, most_store_bytes}
+use Rattle.cry_base.specs.Refusing.{refusal_in}
+use Rattle.cry_base.proofs.Versions.{accepted_in}
 use Rattle.cry_base.specs.Requests.{Request}
 use Rattle.cry_base.specs.Requests.Request.{AddHolder}
 use Rattle.cry_base.specs.Sets.{In}
@@ -27,6 +28,7 @@ use Rattle.public_fold.specs.Journal.{Entry, Journal, Stand, nothing, first_key,
 use Rattle.public_fold.specs.Journal.Entry.{Session, Made, Did, Upgraded}
 use Rattle.public_fold.specs.Keyed.{KeysHold}
 use Rattle.public_fold.specs.KeyStep.{KeyState, Stepped, given, key_step, keys_then, keys_without, newest, next_epoch, next_serial, no_keys, numbered, published, renewed, step_with, is_strict}
+use Rattle.public_fold.specs.Lengths.{end_of}
 use Rattle.public_fold.specs.Records.{Link, Piece, pieces_of}
 use Rattle.role_graph.specs.Edges.{edges}
 use Rattle.role_graph.specs.Roles.{holder_role, role_id, same_role, variant_of}
@@ -39,6 +41,7 @@ use Rattle.public_fold.proofs.Accepting.{accepted}
 use Rattle.public_fold.proofs.AllFit.{journal_all_fit}
 use Rattle.public_fold.proofs.KeyMoves.{IsSound, command_moves, effect_sound, epoch_holds, nothing_holds, root_moves, root_sound, upgrade_moves}
 use Rattle.public_fold.proofs.KeepingKeys.{IsMove, keys_after, planned_told, renewed_told}
+use Rattle.public_fold.proofs.Numbers.{HasNumbers, IsWithin, numbers_below, within_did, within_made, within_session, within_upgraded}
 use Rattle.public_fold.proofs.Serials.{numbered-length}
 use Rattle.journal_bytes.specs.Bytes as bytes
 use Rattle.journal_bytes.specs.Bytes.{bodies_from, bodies_of, entry_body, step_payload}
@@ -119,45 +122,46 @@ unfolding change_of strict_of is_upgrade row_change no_change
 holder_strict true s h check = nothing_in Role (strict_roles (edges s) [] []) (λ r i. ((strict_told (edges s) [] [] r).0 i).0.1)
 holder_strict false s h check = refl
 
-holder_entry_drawn : (at : Stand) (drawn : List (List ℕ)) (links : List Link) → IsSound at.store → KeysHold at.store at.keys links → refusal_of at.store AddHolder most_file_bytes ≡ None
+holder_entry_drawn : (at : Stand) (drawn : List (List ℕ)) (links : List Link) → IsSound at.store → HasNumbers at.store → KeysHold at.store at.keys links → refusal_in (is_strict at.keys) at.store AddHolder most_file_bytes ≡ None
     → IsFed at (Did AddHolder drawn) → IsDrawn at AddHolder drawn
 unfolding entry_keys drawn_by entry_step note_step note_of change_of row_change no_change
-holder_entry_drawn at drawn links sound ok none fed =
+holder_entry_drawn at drawn links sound few ok none fed =
     let s = at.store in
     let h = s.holders_made + 1 in
     let note = note_of s AddHolder [] in
     holder_drawn s (effect s AddHolder (first_key drawn)) at.keys h (change_of (is_strict at.keys) s note) links (pieces_of note (effect s AddHolder (first_key drawn))) drawn
-    (command_moves (is_strict at.keys) s AddHolder (first_key drawn) [] most_file_bytes none sound) ok refl (holder_strict (is_strict at.keys) s h []) refl fed.many
+    (command_moves (is_strict at.keys) s AddHolder (first_key drawn) [] most_file_bytes none few sound) ok refl (holder_strict (is_strict at.keys) s h []) refl fed.many
 
-did_drawn : (at : Stand) (r : Request) (drawn : List (List ℕ)) (links : List Link) → r ≡ AddHolder → IsSound at.store → KeysHold at.store at.keys links → refusal_of at.store r most_file_bytes ≡ None
+did_drawn : (at : Stand) (r : Request) (drawn : List (List ℕ)) (links : List Link) → r ≡ AddHolder → IsSound at.store → HasNumbers at.store → KeysHold at.store at.keys links → refusal_in (is_strict at.keys) at.store r most_file_bytes ≡ None
     → IsFed at (Did r drawn) → IsDrawn at r drawn
-did_drawn at r drawn links is sound ok none fed =
+did_drawn at r drawn links is sound few ok none fed =
     subst (λ z. IsDrawn at z drawn) (sym is)
-    (holder_entry_drawn at drawn links sound ok (subst (λ z. refusal_of at.store z most_file_bytes ≡ None) is none) (subst (λ z. IsFed at (Did z drawn)) is fed))
+    (holder_entry_drawn at drawn links sound few ok (subst (λ z. refusal_in (is_strict at.keys) at.store z most_file_bytes ≡ None) is none) (subst (λ z. IsFed at (Did z drawn)) is fed))
 
-did_holders : (at : Stand) (r : Request) (drawn : List (List ℕ)) (links : List Link) → IsSound at.store → KeysHold at.store at.keys links → refusal_of at.store r most_file_bytes ≡ None → IsFed at (Did r drawn)
+did_holders : (at : Stand) (r : Request) (drawn : List (List ℕ)) (links : List Link) → IsSound at.store → HasNumbers at.store → KeysHold at.store at.keys links → refusal_in (is_strict at.keys) at.store r most_file_bytes ≡ None → IsFed at (Did r drawn)
     → (e : HolderEntry) → In e (effect at.store r (first_key drawn)).holders → In e at.store.holders ⊎ IsHolderKeyed (entry_keys at (Did r drawn)) (entry_step at (Did r drawn)).after e
-did_holders at r drawn links sound ok none fed e i = ⊎_elim
+did_holders at r drawn links sound few ok none fed e i = ⊎_elim
     (λ old. inl old)
-    (λ new. let w = did_drawn at r drawn links new.0 sound ok none fed in
+    (λ new. let w = did_drawn at r drawn links new.0 sound few ok none fed in
     inr (w.0, w.1, ap (λ n. newest (entry_step at (Did r drawn)).after.keys (holder_role n)) new.1 ∙ w.2, w.3 ∙ sym new.2))
     (command_holders at.store r (first_key drawn) e i)
 
-did_walked : (keys : List KeyParts) (at : Stand) (r : Request) (drawn : List (List ℕ)) (links : List Link) (batch place : ℕ) (ls : List PlacedLink) (cs : List PlacedContent) → IsSound at.store → KeysHold at.store at.keys links
-    → refusal_of at.store r most_file_bytes ≡ None → entry_fits at (Did r drawn) ≡ true → IsFed at (Did r drawn) → IsWalked keys at.store at.keys ls cs
+did_walked : (keys : List KeyParts) (at : Stand) (r : Request) (drawn : List (List ℕ)) (links : List Link) (batch place : ℕ) (ls : List PlacedLink) (cs : List PlacedContent) → IsSound at.store → HasNumbers at.store → KeysHold at.store at.keys links
+    → refusal_in (is_strict at.keys) at.store r most_file_bytes ≡ None → entry_fits at (Did r drawn) ≡ true → IsFed at (Did r drawn) → IsWalked keys at.store at.keys ls cs
     → IsWalked (bytes.keys_then keys at (Did r drawn)) (stand_then at (Did r drawn)).store (stand_then at (Did r drawn)).keys
     (ls ++ body_links batch place (entry_body (bytes.keys_then keys at (Did r drawn)) at (Did r drawn))) (cs ++ body_contents batch place (entry_body (bytes.keys_then keys at (Did r drawn)) at (Did r drawn)))
 unfolding bytes.keys_then stand_then entry_store entry_body body_links body_contents step_payload entry_step note_step entry_fits change_of
-did_walked keys at r drawn links batch place ls cs sound ok none fit fed is =
+did_walked keys at r drawn links batch place ls cs sound few ok none fit fed is =
     let s = at.store in
     let note = note_of s r [] in
     let t = effect s r (first_key drawn) in
     let more = entry_keys at (Did r drawn) in
     let whole = step_payload (keys ++ more) (declared_note (note_of s r (check_of (first_key drawn)))) (entry_step at (Did r drawn)) in
-    step_walked keys more s t at.keys (change_of (is_strict at.keys) s note) links (pieces_of note t) (command_moves (is_strict at.keys) s r (first_key drawn) [] most_file_bytes none sound) ok (fresh_once (is_strict at.keys) s note) (pieces_due note t)
+    step_walked keys more s t at.keys (change_of (is_strict at.keys) s note) links (pieces_of note t) (command_moves (is_strict at.keys) s r (first_key drawn) [] most_file_bytes none few sound) ok (fresh_once (is_strict at.keys) s note) (pieces_due note t)
     batch (place + link_offset whole 0) (place + content_offset whole 0) ls cs (begun_from at note (entry_step at (Did r drawn)) fit) (have_then keys at (Did r drawn) is.have fed)
-    (command_kept s r (first_key drawn) (accepted s r most_file_bytes none) sound.counted (effect_sound s r (first_key drawn) most_file_bytes none sound).tree)
-    (did_holders at r drawn links sound ok none fed) is
+    (command_kept s r (first_key drawn) (accepted s r most_file_bytes (accepted_in (is_strict at.keys) s r most_file_bytes none)) sound.rooted.counted
+    (effect_sound (is_strict at.keys) s r (first_key drawn) most_file_bytes none few sound).tree)
+    (did_holders at r drawn links sound few ok none fed) is
 
 upgraded_walked : (keys : List KeyParts) (at : Stand) (drawn : List (List ℕ)) (links : List Link) (batch place : ℕ) (ls : List PlacedLink) (cs : List PlacedContent) → IsSound at.store → KeysHold at.store at.keys links
     → entry_fits at (Upgraded drawn) ≡ true → IsFed at (Upgraded drawn) → IsWalked keys at.store at.keys ls cs
@@ -228,15 +232,15 @@ session_entry keys at batch place ls cs is =
     same_walked keys (bytes.keys_then keys at Session) at.store (next_epoch at.keys) ls (ls ++ []) cs (cs ++ [])
     (sym (session_keys keys at)) (sym (append-nil ls)) (sym (append-nil cs)) (session_walked keys at.store at.keys ls cs is)
 
-did_holds : (at : Stand) (r : Request) (drawn : List (List ℕ)) (links : List Link) → IsSound at.store → KeysHold at.store at.keys links → refusal_of at.store r most_file_bytes ≡ None
+did_holds : (at : Stand) (r : Request) (drawn : List (List ℕ)) (links : List Link) → IsSound at.store → HasNumbers at.store → KeysHold at.store at.keys links → refusal_in (is_strict at.keys) at.store r most_file_bytes ≡ None
     → IsSound (stand_then at (Did r drawn)).store × KeysHold (stand_then at (Did r drawn)).store (stand_then at (Did r drawn)).keys (links ++ (entry_step at (Did r drawn)).links)
 unfolding stand_then entry_store entry_step note_step
-did_holds at r drawn links sound ok none =
+did_holds at r drawn links sound few ok none =
     let s = at.store in
     let t = effect s r (first_key drawn) in
     let note = note_of s r [] in (
-      effect_sound s r (first_key drawn) most_file_bytes none sound,
-      keys_after s t at.keys (change_of (is_strict at.keys) s note) links (command_moves (is_strict at.keys) s r (first_key drawn) [] most_file_bytes none sound) ok (pieces_of note t),
+      effect_sound (is_strict at.keys) s r (first_key drawn) most_file_bytes none few sound,
+      keys_after s t at.keys (change_of (is_strict at.keys) s note) links (command_moves (is_strict at.keys) s r (first_key drawn) [] most_file_bytes none few sound) ok (pieces_of note t),
     )
 
 session_holds : (at : Stand) (links : List Link) → IsSound at.store → KeysHold at.store at.keys links → IsSound (stand_then at Session).store × KeysHold (stand_then at Session).store (stand_then at Session).keys links
@@ -261,15 +265,15 @@ then_keys : (keys : List KeyParts) (at : Stand) (entry : Entry) → bytes.keys_t
 unfolding bytes.keys_then
 then_keys keys at entry = refl
 
-walk : (entries : List Entry) (keys : List KeyParts) (at : Stand) (links : List Link) (ls : List PlacedLink) (cs : List PlacedContent) (place number epoch : ℕ) → IsSound at.store → KeysHold at.store at.keys links
+walk : (entries : List Entry) (keys : List KeyParts) (at : Stand) (links : List Link) (ls : List PlacedLink) (cs : List PlacedContent) (place number epoch : ℕ) → IsSound at.store → IsWithin at entries → KeysHold at.store at.keys links
     → FollowOn at entries → all_fit at entries ≡ true → AreFed at entries → IsWalked keys at.store at.keys ls cs
     → IsWalked (keys ++ keys_from at entries) (stand_after at entries).store (stand_after at entries).keys
     (ls ++ log_links (placed_from place number epoch (bodies_from keys at entries))) (cs ++ log_contents (placed_from place number epoch (bodies_from keys at entries)))
 unfolding keys_from stand_after all_fit bodies_from
-walk [] keys at links ls cs place number epoch sound ok follow fit fed is =
+walk [] keys at links ls cs place number epoch sound few ok follow fit fed is =
     same_walked keys (keys ++ []) at.store at.keys ls (ls ++ log_links []) cs (cs ++ log_contents [])
     (sym (append-nil keys)) (sym (append-nil ls) ∙ ap (λ z. ls ++ z) no_links) (sym (append-nil cs) ∙ ap (λ z. cs ++ z) no_contents) is
-walk (Session ∷ entries) keys at links ls cs place number epoch sound ok follow fit fed is =
+walk (Session ∷ entries) keys at links ls cs place number epoch sound few ok follow fit fed is =
     let later = bytes.keys_then keys at Session in
     let body = entry_body later at Session in
     let batch = batch_of number epoch body in
@@ -280,22 +284,23 @@ walk (Session ∷ entries) keys at links ls cs place number epoch sound ok follo
     joined keys (entry_keys at Session) (keys_from next entries) (stand_after next entries).store (stand_after next entries).keys ls cs p log
     (subst (λ z. IsWalked (z ++ keys_from next entries) (stand_after next entries).store (stand_after next entries).keys ((ls ++ body_links p.batch p.place p.body) ++ log_links log) ((cs ++ body_contents p.batch p.place p.body) ++ log_contents log)) (then_keys keys at Session)
     (walk entries later next links (ls ++ body_links p.batch p.place p.body) (cs ++ body_contents p.batch p.place p.body) (place + (batch_len + length batch.payload)) batch.number batch.epoch
-    holds.0 holds.1 follow.1 (and_parts (entry_fits at Session) (all_fit next entries) fit).1 fed.1 (session_entry keys at p.batch p.place ls cs is)))
-walk (Made version drawn ∷ entries) keys at links ls cs place number epoch sound ok follow fit fed is = absurd follow.0
-walk (Did r drawn ∷ entries) keys at links ls cs place number epoch sound ok follow fit fed is =
+    holds.0 (within_session at entries few) holds.1 follow.1 (and_parts (entry_fits at Session) (all_fit next entries) fit).1 fed.1 (session_entry keys at p.batch p.place ls cs is)))
+walk (Made version drawn ∷ entries) keys at links ls cs place number epoch sound few ok follow fit fed is = absurd follow.0
+walk (Did r drawn ∷ entries) keys at links ls cs place number epoch sound few ok follow fit fed is =
     let later = bytes.keys_then keys at (Did r drawn) in
     let body = entry_body later at (Did r drawn) in
     let batch = batch_of number epoch body in
     let next = stand_then at (Did r drawn) in
     let p : PlainPlaced = record { batch = batch.number; epoch = record { 0 = batch.epoch }; place = place + 45; body = body } in
     let log = placed_from (place + (batch_len + length batch.payload)) batch.number batch.epoch (bodies_from later next entries) in
-    let holds = did_holds at r drawn links sound ok follow.0.0 in
+    let left = numbers_below at (Did r drawn) entries few in
+    let holds = did_holds at r drawn links sound left ok follow.0.0 in
     let both = and_parts (entry_fits at (Did r drawn)) (all_fit next entries) fit in
     joined keys (entry_keys at (Did r drawn)) (keys_from next entries) (stand_after next entries).store (stand_after next entries).keys ls cs p log
     (subst (λ z. IsWalked (z ++ keys_from next entries) (stand_after next entries).store (stand_after next entries).keys ((ls ++ body_links p.batch p.place p.body) ++ log_links log) ((cs ++ body_contents p.batch p.place p.body) ++ log_contents log)) (then_keys keys at (Did r drawn))
     (walk entries later next (links ++ (entry_step at (Did r drawn)).links) (ls ++ body_links p.batch p.place p.body) (cs ++ body_contents p.batch p.place p.body) (place + (batch_len + length batch.payload)) batch.number batch.epoch
-    holds.0 holds.1 follow.1 both.1 fed.1 (did_walked keys at r drawn links p.batch p.place ls cs sound ok follow.0.0 both.0 fed.0 is)))
-walk (Upgraded drawn ∷ entries) keys at links ls cs place number epoch sound ok follow fit fed is =
+    holds.0 (within_did at r drawn entries few) holds.1 follow.1 both.1 fed.1 (did_walked keys at r drawn links p.batch p.place ls cs sound left ok follow.0.0 both.0 fed.0 is)))
+walk (Upgraded drawn ∷ entries) keys at links ls cs place number epoch sound few ok follow fit fed is =
     let later = bytes.keys_then keys at (Upgraded drawn) in
     let body = entry_body later at (Upgraded drawn) in
     let batch = batch_of number epoch body in
@@ -307,7 +312,7 @@ walk (Upgraded drawn ∷ entries) keys at links ls cs place number epoch sound o
     joined keys (entry_keys at (Upgraded drawn)) (keys_from next entries) (stand_after next entries).store (stand_after next entries).keys ls cs p log
     (subst (λ z. IsWalked (z ++ keys_from next entries) (stand_after next entries).store (stand_after next entries).keys ((ls ++ body_links p.batch p.place p.body) ++ log_links log) ((cs ++ body_contents p.batch p.place p.body) ++ log_contents log)) (then_keys keys at (Upgraded drawn))
     (walk entries later next (links ++ (entry_step at (Upgraded drawn)).links) (ls ++ body_links p.batch p.place p.body) (cs ++ body_contents p.batch p.place p.body) (place + (batch_len + length batch.payload)) batch.number batch.epoch
-    holds.0 holds.1 follow.1 both.1 fed.1 (upgraded_walked keys at drawn links p.batch p.place ls cs sound ok both.0 fed.0 is)))
+    holds.0 (within_upgraded at drawn entries few) holds.1 follow.1 both.1 fed.1 (upgraded_walked keys at drawn links p.batch p.place ls cs sound ok both.0 fed.0 is)))
 
 -- ---- journals
 
@@ -364,14 +369,14 @@ two_links p q log none = sym (more_links q log) ∙ ap (λ z. z ++ log_links (q 
 two_contents : (p q : PlainPlaced) (log : List PlainPlaced) → body_contents p.batch p.place p.body ≡ [] → body_contents q.batch q.place q.body ++ log_contents log ≡ log_contents (p ∷ q ∷ log)
 two_contents p q log none = sym (more_contents q log) ∙ ap (λ z. z ++ log_contents (q ∷ log)) (sym none) ∙ sym (more_contents p (q ∷ log))
 
-begins : (owner : List ℕ) (m : Journal) → length owner ≡ 32 → BeginsWell m → all_fit nothing m ≡ true → AreFed nothing m
+begins : (owner : List ℕ) (m : Journal) → length owner ≡ 32 → BeginsWell m → end_of m ≤ most_store_bytes → all_fit nothing m ≡ true → AreFed nothing m
     → IsWalked ((owner_parts owner ∷ []) ++ keys_from nothing m) (stand_after nothing m).store (stand_after nothing m).keys
     (log_links (placed_from header_len 0 0 (bodies_from (owner_parts owner ∷ []) nothing m))) (log_contents (placed_from header_len 0 0 (bodies_from (owner_parts owner ∷ []) nothing m)))
 unfolding keys_from stand_after all_fit bodies_from
-begins owner [] size b fit fed = absurd b
-begins owner (Session ∷ []) size b fit fed = absurd b
-begins owner (Session ∷ Session ∷ es) size b fit fed = absurd b
-begins owner (Session ∷ Made version drawn ∷ es) size b fit fed =
+begins owner [] size b low fit fed = absurd b
+begins owner (Session ∷ []) size b low fit fed = absurd b
+begins owner (Session ∷ Session ∷ es) size b low fit fed = absurd b
+begins owner (Session ∷ Made version drawn ∷ es) size b low fit fed =
     let keys = owner_parts owner ∷ [] in
     let first = bytes.keys_then keys nothing Session in
     let body = entry_body first nothing Session in
@@ -391,23 +396,23 @@ begins owner (Session ∷ Made version drawn ∷ es) size b fit fed =
     let at = stand_after next es in
     let made_is = made_walked first version drawn q.batch q.place inner.0 fed.1.0 (begun_walked owner size) in
     let rest = walk es later next (entry_step begun (Made version drawn)).links (body_links q.batch q.place made) (body_contents q.batch q.place made) (place + (batch_len + length second.payload)) second.number second.epoch
-    holds.0 holds.1 b.1 inner.1 fed.1.1 made_is in
+    holds.0 (within_made version drawn es low) holds.1 b.1 inner.1 fed.1.1 made_is in
     same_walked (later ++ keys_from next es) (keys ++ (entry_keys nothing Session ++ (entry_keys begun (Made version drawn) ++ keys_from next es))) at.store at.keys
     (body_links q.batch q.place made ++ log_links log) (log_links (p ∷ q ∷ log))
     (body_contents q.batch q.place made ++ log_contents log) (log_contents (p ∷ q ∷ log))
     (two_keys keys (entry_keys nothing Session) (entry_keys begun (Made version drawn)) (keys_from next es) first later (then_keys keys nothing Session) (then_keys first begun (Made version drawn)))
     (two_links p q log none.0) (two_contents p q log none.1)
     rest
-begins owner (Session ∷ Did request drawn ∷ es) size b fit fed = absurd b
-begins owner (Session ∷ Upgraded drawn ∷ es) size b fit fed = absurd b
-begins owner (Made version drawn ∷ es) size b fit fed = absurd b
-begins owner (Did request drawn ∷ es) size b fit fed = absurd b
-begins owner (Upgraded drawn ∷ es) size b fit fed = absurd b
+begins owner (Session ∷ Did request drawn ∷ es) size b low fit fed = absurd b
+begins owner (Session ∷ Upgraded drawn ∷ es) size b low fit fed = absurd b
+begins owner (Made version drawn ∷ es) size b low fit fed = absurd b
+begins owner (Did request drawn ∷ es) size b low fit fed = absurd b
+begins owner (Upgraded drawn ∷ es) size b low fit fed = absurd b
 
 -- each record of a valid journal's log is what it should be
 pub journal_walked : (owner : List ℕ) (m : Journal) → IsValid m → AreWhole owner m → IsWalked (all_keys owner m) (store_of m) (keys_of m) (log_links (log_of owner m)) (log_contents (log_of owner m))
 unfolding all_keys store_of keys_of log_of bodies_of
-journal_walked owner m valid whole = begins owner m whole.owner_size valid.0 (journal_all_fit m valid) (begins_fed m valid.0 whole.drawn_sizes)
+journal_walked owner m valid whole = begins owner m whole.owner_size valid.0 valid.1 (journal_all_fit m valid) (begins_fed m valid.0 whole.drawn_sizes)
 
 -- the last contents are those of what stands
 pub journal_contents : (owner : List ℕ) (m : Journal) → IsValid m → AreWhole owner m → HoldsPresent (all_keys owner m) (store_of m) (keys_of m) (log_of owner m)

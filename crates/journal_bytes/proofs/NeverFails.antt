@@ -1,10 +1,11 @@
 -- The owner's visits to a valid journal never fail.
-use Rattle.std.proofs.Common.{◌≡◌, ⊎_elim, inl, inr, ℕ, Bool, true, false, cond, ◌==◌, ◌&&◌, List, [], ◌∷◌, ◌++◌, map, Option, Some, None, Result, Ok, Err, refl, sym, ap, subst, ◌∙◌}
-use Rattle.std.specs.Prelude.{IsSome, filter, if◌then◌else◌, is_some, nat_lt, not}
+use Rattle.std.proofs.Common.{◌≡◌, ⊎_elim, inl, inr, ℕ, Bool, true, false, cond, ◌==◌, ◌&&◌, List, [], ◌∷◌, ◌++◌, map, Option, Some, None, Result, Ok, Err, append-nil, refl, sym, ap, subst, ◌∙◌}
+use Rattle.std.specs.Prelude.{IsSome, IsTrue, filter, if◌then◌else◌, is_some, nat_lt, not}
 use Rattle.std.specs.List.{flat_map}
 use Rattle.std.proofs.lemmas.Bool.{false≢true}
 use Rattle.chacha_seal.specs.Keys.{KeyParts}
 use Rattle.commit_journal.specs.Answering.{Fault, Damaged, and_then}
+use Rattle.cry_base.specs.Clearances.{clear_number}
 use Rattle.cry_base.specs.Sets.{In}
 use Rattle.cry_base.specs.Stepping.{with_folder}
 use Rattle.cry_base.specs.Store.{Store, FolderEntry, FileEntry, HolderEntry}
@@ -15,7 +16,7 @@ use Rattle.cry_base.proofs.Members.{In-filter, In-map}
 use Rattle.log_visits.specs.Placing.{PlacedContent, PlacedLink, content_for, link_for, log_contents, log_links}
 use Rattle.log_visits.specs.Verdict.{open_content}
 use Rattle.log_visits.specs.Visiting.{Opened, Reading, key_of, needed, visit, visit_all, visit_text, with_holder_key, with_key, with_name_at, with_parts, with_text_at}
-use Rattle.log_visits.specs.Visits.{Visit, all_visits, allowed_visits, entry_edge, entry_visits, file_visits, files_that, folders_that, holder_visits, is_entry, is_higher, is_deeper, lower_visits, name_visits, upper_visit, upper_visits, visits_to_names}
+use Rattle.log_visits.specs.Visits.{Visit, all_visits, allowed_visits, clearance_visits, entry_edge, entry_file_visits, entry_folder_visits, entry_visits, file_visits, files_that, folders_that, holder_visits, into_file, is_entry, is_entry_file, is_higher, is_deeper, lower_visits, name_visits, upper_visit, upper_visits, visits_to_names, writing_visits}
 use Rattle.log_visits.specs.Visits.Visit.{ToKey, ToName, ToFile, ToHolder}
 use Rattle.log_visits.proofs.FoldedHolds.{each_edge_found}
 use Rattle.log_visits.proofs.Following.{link_decides}
@@ -24,8 +25,8 @@ use Rattle.key_links.specs.Sealed.{sealed_content}
 use Rattle.move_plan.specs.Change.{folder_of_file, parent_of_folder}
 use Rattle.move_plan.specs.Fitting.{public_of}
 use Rattle.move_plan.proofs.Public.{edges_public}
-use Rattle.role_graph.specs.Edges.{IsEdge, edge, edges, file_edge, folder_edges, in_order}
-use Rattle.role_graph.specs.Rights.{allowed_to, named_to}
+use Rattle.role_graph.specs.Edges.{IsEdge, clearance_edges, edge, edges, file_edge, folder_edges, has_grants, in_order}
+use Rattle.role_graph.specs.Rights.{allowed_to, file_allowed_to, named_to}
 use Rattle.role_graph.specs.Rights.Who.{TheOwner}
 use Rattle.role_graph.specs.Roles.{back_of, clear_of, data_of, file_role, files_of, sub_of}
 use Rattle.role_graph.proofs.Edging.{In-order, edges_told}
@@ -76,6 +77,19 @@ stands_file test s x i =
     named_back FileEntry (λ d. d.id) (λ d. record d { name = []; bytes = [] }) (λ d. refl) s.files x
     (in_filtered FileEntry (λ d. d.id) test xs x ((In-order ℕ nat_lt x (map (λ (d : FileEntry). d.id) (filter test xs))).0 i))
 
+-- a file that is visited for its Clearance has a grant
+granted_file : (s : Store) (x : ℕ) → In x (files_that (λ d. has_grants (public_of s) (clear_number d.id)) (public_of s)) → (e : FileEntry) × In e s.files × (e.id ≡ x) × IsTrue (has_grants s (clear_number e.id))
+unfolding files_that public_of has_grants
+granted_file s x i =
+    let test : FileEntry → Bool = λ d. has_grants (public_of s) (clear_number d.id) in
+    let bare : FileEntry → FileEntry = λ d. record d { name = []; bytes = [] } in
+    let xs = map bare s.files in
+    let w = (In-map FileEntry ℕ (λ d. d.id) x (filter test xs)).0 ((In-order ℕ nat_lt x (map (λ (d : FileEntry). d.id) (filter test xs))).0 i) in
+    let passes = In-filter FileEntry test w.0 xs w.1 in
+    let e = (In-map FileEntry FileEntry bare w.0 s.files).0 passes.0 in
+    let same : w.0.id ≡ e.0.id = ap (λ (d : FileEntry). d.id) e.2 in
+    (e.0, e.1, sym (w.2 ∙ same), subst (λ n. IsTrue (has_grants s (clear_number n))) same passes.1)
+
 abbrev numbers_of : Store → List ℕ
 numbers_of s = in_order nat_lt (map (λ (e : HolderEntry). e.number) s.holders)
 
@@ -89,13 +103,21 @@ own_edge : (s : Store) (e : FolderEntry) (f : ℕ) (d : Edge) → In e s.folders
 own_edge s e f d i same j = inl (e, i, subst (λ n. In d (folder_edges n)) (sym same) j)
 
 -- no folder is allowed and no entry, and none named and not allowed
-none_left : (test : ℕ → Bool) (xs : List ℕ) → ((x : ℕ) → test x ≡ false) → filter test xs ≡ []
-none_left test [] out = refl
-none_left test (x ∷ xs) out = ap (λ b. cond b (x ∷ filter test xs) (filter test xs)) (out x) ∙ none_left test xs out
+none_left : (X : Type 0) (test : X → Bool) (xs : List X) → ((x : X) → test x ≡ false) → filter test xs ≡ []
+none_left X test [] out = refl
+none_left X test (x ∷ xs) out = ap (λ b. cond b (x ∷ filter test xs) (filter test xs)) (out x) ∙ none_left X test xs out
 
 no_folder : (test : ℕ → Bool) (s : Store) → ((f : ℕ) → test f ≡ false) → folders_that test s ≡ []
 unfolding folders_that in_order
-no_folder test s out = ap (in_order nat_lt) (none_left test (map (λ (e : FolderEntry). e.id) s.folders) out)
+no_folder test s out = ap (in_order nat_lt) (none_left ℕ test (map (λ (e : FolderEntry). e.id) s.folders) out)
+
+-- the owner comes into no file by a grant
+entry_alone : (s : Store) → entry_visits s TheOwner ≡ entry_folder_visits s TheOwner
+unfolding entry_visits entry_file_visits files_that is_entry_file in_order
+entry_alone s =
+    ap (λ (es : List FileEntry). entry_folder_visits s TheOwner ++ map (λ x. ToKey (entry_edge TheOwner (clear_number x))) (in_order nat_lt (map (λ (e : FileEntry). e.id) es)))
+    (none_left FileEntry (is_entry_file s TheOwner) s.files (λ e. refl))
+    ∙ append-nil (entry_folder_visits s TheOwner)
 
 no_lower : (s : Store) → lower_visits s TheOwner ≡ []
 unfolding lower_visits allowed_to is_entry in_order
@@ -237,15 +259,16 @@ module _ (keys : List KeyParts) (s : Store) (r : Reading) (ok : IsOpenable keys 
   -- ---- the owner's visits, part by part
 
   entries_go : (o p : Opened) → IsLater keys r.stand.keys o p → IsSome (key_of o.keys Owner) → AllGo r (entry_visits (public_of s) TheOwner) p
-  unfolding entry_visits entry_edge is_entry folder_edges edge
+  unfolding entry_folder_visits entry_edge is_entry folder_edges edge
   entries_go o p is has =
-      each_goes (λ f. ToKey (edge 1 Owner (clear_of f)) ∷ ToKey (edge 3 (clear_of f) (sub_of f)) ∷ []) (folders_that (is_entry (public_of s) TheOwner) (public_of s)) o p is (λ f i q l.
+      subst (λ vs. AllGo r vs p) (sym (entry_alone (public_of s)))
+      (each_goes (λ f. ToKey (edge 1 Owner (clear_of f)) ∷ ToKey (edge 3 (clear_of f) (sub_of f)) ∷ []) (folders_that (is_entry (public_of s) TheOwner) (public_of s)) o p is (λ f i q l.
       let e = stands_folder (is_entry (public_of s) TheOwner) s f i in
       let one = edge 1 Owner (clear_of f) in
       let two = edge 3 (clear_of f) (sub_of f) in
       two_go (ToKey one) (ToKey two) q
       (edge_goes keys s r q one ok l.drawn (own_edge s e.0 f one e.1 e.2 (inl refl)) (l.stays Owner has))
-      (λ t done. edge_goes keys s r t two ok (later (ToKey one ∷ []) o q t l done).drawn (own_edge s e.0 f two e.1 e.2 (inr (inl refl))) (edge_open r (ToKey one ∷ []) q t one done (inl refl))))
+      (λ t done. edge_goes keys s r t two ok (later (ToKey one ∷ []) o q t l done).drawn (own_edge s e.0 f two e.1 e.2 (inr (inl refl))) (edge_open r (ToKey one ∷ []) q t one done (inl refl)))))
 
   abbrev AreOpen : (ℕ → Role) → Opened → Type 0
   AreOpen role o = (e : FolderEntry) → In e s.folders → IsSome (key_of o.keys (role e.id))
@@ -277,18 +300,18 @@ module _ (keys : List KeyParts) (s : Store) (r : Reading) (ok : IsOpenable keys 
       subst (λ n. Goes r (ToName n) t) e.2
       (name_goes keys s r t e.0 ok m.drawn e.1 (subst (λ n. IsSome (key_of t.keys (data_of n))) (sym e.2) (edge_open r (ToKey one ∷ []) q t one done (inl refl))))))
 
-  files_go : (o p : Opened) → IsLater keys r.stand.keys o p → AreOpen files_of o → AllGo r (file_visits (public_of s) (files_that (λ d. allowed_to (public_of s) TheOwner d.folder) (public_of s))) p
-  unfolding file_visits file_edge edge
+  files_go : (o p : Opened) → IsLater keys r.stand.keys o p → AreOpen files_of o → AllGo r (file_visits (public_of s) TheOwner (files_that (file_allowed_to (public_of s) TheOwner) (public_of s))) p
+  unfolding file_visits into_file allowed_to file_edge edge
   files_go o p is has =
-      each_goes (λ x. ToKey (file_edge (folder_of_file (public_of s) x) x) ∷ ToFile x ∷ []) (files_that (λ d. allowed_to (public_of s) TheOwner d.folder) (public_of s)) o p is (λ x i q l.
-      let e = stands_file (λ d. allowed_to (public_of s) TheOwner d.folder) s x i in
+      each_goes (λ x. ToKey (file_edge (folder_of_file (public_of s) x) x) ∷ ToFile x ∷ []) (files_that (file_allowed_to (public_of s) TheOwner) (public_of s)) o p is (λ x i q l.
+      let e = stands_file (file_allowed_to (public_of s) TheOwner) s x i in
       let f = file_folder s e.0 x ok.tree e.1 e.2 in
       let one = file_edge (folder_of_file (public_of s) x) x in
       let same : one ≡ file_edge e.0.folder e.0.id = (λ j. file_edge (f j) (sym e.2 j)) in
       let level = ok.tree.file_level e.0 e.1 in
       let d = level_stands level.0 s.folders e.0.folder level.1 in
       two_go (ToKey one) (ToFile x) q
-      (edge_goes keys s r q one ok l.drawn (inr (inr (inr (e.0, e.1, same)))) (is_open files_of o q d.0 (folder_of_file (public_of s) x) has l d.1 (d.2 ∙ sym f)))
+      (edge_goes keys s r q one ok l.drawn (inr (inr (inr (inl (e.0, e.1, same))))) (is_open files_of o q d.0 (folder_of_file (public_of s) x) has l d.1 (d.2 ∙ sym f)))
       (λ t done. let m = later (ToKey one ∷ []) o q t l done in
       subst (λ n. Goes r (ToFile n) t) e.2
       (file_goes keys s r t e.0 ok m.drawn e.1 (subst (λ n. IsSome (key_of t.keys (file_role n))) (sym e.2) (edge_open r (ToKey one ∷ []) q t one done (inl refl))))))
@@ -303,6 +326,27 @@ module _ (keys : List KeyParts) (s : Store) (r : Reading) (ok : IsOpenable keys 
   holders_go : (o p : Opened) → IsLater keys r.stand.keys o p → IsSome (key_of o.keys Owner) → AllGo r (holder_visits (public_of s)) p
   unfolding holder_visits
   holders_go o p is has = numbers_go (numbers_of (public_of s)) o p is has (stands_holder s)
+
+  -- the Clearances of files
+  abbrev into_clearance : ℕ → Edge
+  into_clearance x = edge 1 Owner (clear_of (clear_number x))
+
+  clearance_stands : (e : FileEntry) (x : ℕ) → In e s.files → e.id ≡ x → IsTrue (has_grants s (clear_number e.id)) → IsEdge s (into_clearance x)
+  unfolding clearance_edges
+  clearance_stands e x i same has = inr (inr (inr (inr (e, i, has, inl (λ j. into_clearance (sym same j))))))
+
+  keys_go : (xs : List ℕ) (o p : Opened) → IsLater keys r.stand.keys o p → IsSome (key_of o.keys Owner) → ((x : ℕ) → In x xs → IsEdge s (into_clearance x)) → AllGo r (map (λ x. ToKey (into_clearance x)) xs) p
+  unfolding edge
+  keys_go [] o p is has stand = none_goes r p
+  keys_go (x ∷ xs) o p is has stand =
+      let v = ToKey (into_clearance x) in
+      let first = one_goes v p (edge_goes keys s r p (into_clearance x) ok is.drawn (stand x (inl refl)) (is.stays Owner has)) in
+      more_go (v ∷ []) (map (λ y. ToKey (into_clearance y)) xs) p first (keys_go xs o first.0 (later (v ∷ []) o p first.0 is first.1) has (λ y i. stand y (inr i)))
+
+  clearances_go : (o p : Opened) → IsLater keys r.stand.keys o p → IsSome (key_of o.keys Owner) → AllGo r (clearance_visits (public_of s)) p
+  unfolding clearance_visits
+  clearances_go o p is has =
+      keys_go (files_that (λ d. has_grants (public_of s) (clear_number d.id)) (public_of s)) o p is has (λ x i. let w = granted_file s x i in clearance_stands w.0 x w.1 w.2 w.3)
 
   subs_open : (o p : Opened) → visit_all r (entry_visits (public_of s) TheOwner) o ≡ Ok p → AreOpen sub_of p
   unfolding edge
@@ -368,20 +412,23 @@ module _ (keys : List KeyParts) (s : Store) (r : Reading) (ok : IsOpenable keys 
         files_are_open = λ d j. at_n.stays (files_of d.id) (files_open e.0 i.0 i.1 d j);
       }
 
-  all_read : (o n f h : Opened) → visit_all r tree_visits o ≡ Ok n → visit_all r (file_visits (public_of s) (files_that (λ d. allowed_to (public_of s) TheOwner d.folder) (public_of s))) n ≡ Ok f
-      → visit_all r (holder_visits (public_of s)) f ≡ Ok h → visit_all r (all_of s) o ≡ Ok h
-  unfolding all_visits visits_to_names
-  all_read o n f h first second third =
-      let F = file_visits (public_of s) (files_that (λ d. allowed_to (public_of s) TheOwner d.folder) (public_of s)) in
-      joined (tree_visits ++ F) (holder_visits (public_of s)) o f h (joined tree_visits F o n f first second) third
+  all_read : (o n f h c : Opened) → visit_all r tree_visits o ≡ Ok n → visit_all r (file_visits (public_of s) TheOwner (files_that (file_allowed_to (public_of s) TheOwner) (public_of s))) n ≡ Ok f
+      → visit_all r (holder_visits (public_of s)) f ≡ Ok h → visit_all r (clearance_visits (public_of s)) h ≡ Ok c → visit_all r (all_of s) o ≡ Ok c
+  unfolding all_visits visits_to_names writing_visits
+  all_read o n f h c first second third fourth =
+      let F = file_visits (public_of s) TheOwner (files_that (file_allowed_to (public_of s) TheOwner) (public_of s)) in
+      joined (tree_visits ++ F) (writing_visits (public_of s)) o f c (joined tree_visits F o n f first second)
+      (joined (holder_visits (public_of s)) (clearance_visits (public_of s)) f h c third fourth)
 
   owner_goes : (o : Opened) → AreDrawn keys r.stand.keys o.keys → IsSome (key_of o.keys Owner) → AllGo r (all_of s) o
   owner_goes o drawn has =
       let tree = tree_goes o drawn has in
       let f = files_go tree.after tree.after (now keys r.stand.keys tree.after tree.is_later.drawn) tree.files_are_open in
-      let at_f = later (file_visits (public_of s) (files_that (λ d. allowed_to (public_of s) TheOwner d.folder) (public_of s))) o tree.after f.0 tree.is_later f.1 in
+      let at_f = later (file_visits (public_of s) TheOwner (files_that (file_allowed_to (public_of s) TheOwner) (public_of s))) o tree.after f.0 tree.is_later f.1 in
       let h = holders_go o f.0 at_f has in
-      (h.0, all_read o tree.after f.0 h.0 tree.read f.1 h.1)
+      let at_h = later (holder_visits (public_of s)) o f.0 h.0 at_f h.1 in
+      let c = clearances_go o h.0 at_h has in
+      (c.0, all_read o tree.after f.0 h.0 c.0 tree.read f.1 h.1 c.1)
 
 -- ---- journals
 

@@ -4,14 +4,12 @@ use Rattle.chacha_seal.specs.Keys.{KeyParts}
 use Rattle.commit_journal.specs.Journals.{IsJournalOf, JournalState, last_epoch}
 use Rattle.commit_journal.specs.Laws.{batch_of, batches_from}
 use Rattle.commit_journal.specs.Placed.{PlainBody}
-use Rattle.cry_base.specs.Requests.{Request}
 use Rattle.public_fold.specs.Journal.{Entry, Journal, Stand, nothing, entry_step, keys_of, note_step, stand_then, stand_after}
 use Rattle.public_fold.specs.Journal.Entry.{Session, Made, Did, Upgraded}
 use Rattle.public_fold.specs.KeyStep.{key_step, next_epoch, no_keys, published, step_with}
 use Rattle.public_fold.specs.Preparing.{begun}
 use Rattle.journal_bytes.specs.Bytes.{batches_of, bodies_from, bodies_of, entry_body, keys_then}
 use Rattle.journal_bytes.specs.Keys.{all_keys, drawn_by, entry_keys, keys_from, owner_parts, with_bytes}
-use Rattle.journal_bytes.specs.Script.{journal_then}
 use Rattle.journal_bytes.specs.Sealing.{keys_with}
 use Rattle.journal_bytes.proofs.Grown.{all_keys-append, batch_number, next_body}
 use Rattle.journal_bytes.proofs.NextEntry.{between, stand_between}

@@ -5,8 +5,9 @@ use Rattle.std.proofs.lemmas.Bool.{and_from, and_parts, cases_lt, false≢true}
 use Rattle.std.proofs.lemmas.List.{length-replicate}
 use Rattle.std.proofs.lemmas.List.Elements.{All-replicate}
 use Rattle.cry_base.specs.Limits.{most_file_bytes, most_store_bytes}
-use Rattle.cry_base.specs.Refusing.{refusal_of}
+use Rattle.cry_base.specs.Refusing.{refusal_in}
 use Rattle.cry_base.specs.Requests.{Request}
+use Rattle.cry_base.proofs.Versions.{accepted_in}
 use Rattle.move_plan.specs.Fitting.{fits, public_of}
 use Rattle.move_plan.specs.Noting.{note_of}
 use Rattle.public_fold.specs.Fitted.{told_step}
@@ -17,6 +18,7 @@ use Rattle.public_fold.specs.Preparing.{begun}
 use Rattle.public_fold.specs.StandFits.{all_fit, entry_fits, has_count, note_fits}
 use Rattle.public_fold.specs.Valid.{IsValid}
 use Rattle.public_fold.proofs.AllFit.{journal_all_fit}
+use Rattle.public_fold.proofs.HeldMarks.{begun_strict}
 use Rattle.public_fold.proofs.NotesFit.{journal_fits}
 use Rattle.journal_bytes.specs.Folds.{public_stand}
 use Rattle.journal_bytes.specs.Script.{draws_of, due_end}
@@ -30,7 +32,7 @@ unfolding all_fit stand_after
 last_fits at [] entry fit = (and_parts (entry_fits at entry) true fit).0
 last_fits at (x ∷ entries) entry fit = last_fits (stand_then at x) entries entry (and_parts (entry_fits at x) (all_fit (stand_then at x) (entries ++ entry ∷ [])) fit).1
 
-module _ (m : Journal) (has_begun : Bool) (r : Request) (file_bytes : ℕ) (valid : IsValid m) (bound : file_bytes ≤ most_file_bytes) (none : refusal_of (store_of m) r file_bytes ≡ None) where
+module _ (m : Journal) (has_begun : Bool) (r : Request) (file_bytes : ℕ) (valid : IsValid m) (bound : file_bytes ≤ most_file_bytes) (none : refusal_in (is_strict (keys_of m)) (store_of m) r file_bytes ≡ None) where
   fits_low : (check : List ℕ) → due_end m has_begun r ≤ most_store_bytes
       → note_fits (begun (not has_begun) (public_stand m)) (note_of (store_of m) r check) (told_step (begun (not has_begun) (public_stand m)) (note_of (store_of m) r check)) ≡ true
   unfolding note_fits has_count entry_fits public_stand store_of keys_of
@@ -43,8 +45,10 @@ module _ (m : Journal) (has_begun : Bool) (r : Request) (file_bytes : ℕ) (vali
       let last = subst (λ (a : Stand). entry_fits a (Did r drawn) ≡ true) (stand_between m has_begun) (last_fits nothing (between m has_begun) (Did r drawn) (journal_all_fit _ next)) in
       let parts = and_parts (nat_lt 0 at.keys.epoch) (fits strict at.store (note_of at.store r []) && has_count (entry_step at (Did r drawn))) last in
       let counted = (and_parts (fits strict at.store (note_of at.store r [])) (has_count (entry_step at (Did r drawn))) parts.1).1 in
-      let seen : fits strict (public_of at.store) note ≡ true = fits_seen strict at.store note ∙ journal_fits strict m valid r check file_bytes none in
-      let same = told_keys at r check drawn file_bytes none in
+      let seen : fits strict (public_of at.store) note ≡ true = fits_seen strict at.store note
+      ∙ journal_fits strict m valid r check file_bytes (subst (λ b. refusal_in b (store_of m) r file_bytes ≡ None) (sym (begun_strict (not has_begun) (stand_after nothing m).keys)) none)
+      in
+      let same = told_keys at r check drawn file_bytes (accepted_in (is_strict (keys_of m)) (store_of m) r file_bytes none) in
       and_from (nat_lt 0 at.keys.epoch) (fits strict (public_of at.store) note && has_count (told_step (begun (not has_begun) (public_stand m)) note)) parts.0
       (and_from (fits strict (public_of at.store) note) (has_count (told_step (begun (not has_begun) (public_stand m)) note)) seen
       (ap (λ k. nat_lt k.count (2 ^ 32 - 1)) same ∙ counted))

@@ -1,10 +1,9 @@
 -- A journal of version 1 with an upgrade is a journal, where its log ends within the store's limit; and what the upgrade's step has.
-use Rattle.std.proofs.Common.{◌≡◌, ⊎_elim, ℕ, ◌+◌, ◌-◌, ◌*◌, ◌^◌, ◌≤◌, ◌<◌, Bool, true, false, cond, not, ◌&&◌, List, [], ◌∷◌, ◌++◌, length, replicate, All, arith, refl, sym, ap, subst, ◌∙◌, length-append}
+use Rattle.std.proofs.Common.{◌≡◌, ⊎_elim, ℕ, ◌+◌, ◌-◌, ◌*◌, ◌^◌, ◌≤◌, ◌<◌, Bool, true, false, not, ◌&&◌, List, [], ◌∷◌, ◌++◌, length, replicate, arith, refl, sym, ap, subst, ◌∙◌, length-append}
 use Rattle.std.specs.Prelude.{nat_lt}
 use Rattle.std.specs.List.{sum_by}
 use Rattle.std.proofs.lemmas.Bool.{and_from, and_parts, cases_lt, false≢true}
 use Rattle.std.proofs.lemmas.List.{length-replicate}
-use Rattle.cry_base.specs.Layout.{batch_len}
 use Rattle.cry_base.specs.Limits.{most_store_bytes}
 use Rattle.role_graph.specs.Edges.{edges}
 use Rattle.move_plan.specs.Change.{change_of}
@@ -13,18 +12,17 @@ use Rattle.move_plan.proofs.Public.{change_public, edges_public}
 use Rattle.record_format.specs.Noted.Note.{Upgrade}
 use Rattle.public_fold.specs.Fitted.{told_step}
 use Rattle.public_fold.specs.Journal.{Journal, Stand, entry_step, keys_of, note_step, nothing, stand_after, steps_of, store_of}
-use Rattle.public_fold.specs.Journal.Entry.{Session, Upgraded}
+use Rattle.public_fold.specs.Journal.Entry.{Upgraded}
 use Rattle.public_fold.specs.Keyed.{links_of}
 use Rattle.public_fold.specs.KeyStep.{KeyState, contents_from, is_strict, key_step, next_epoch, numbered, published, published_edges, renewed, step_with}
 use Rattle.public_fold.specs.Lengths.{content_len, end_of, entry_payload, note_len, payload_len}
 use Rattle.public_fold.specs.Preparing.{begun, begun_keys}
 use Rattle.public_fold.specs.Records.{pieces_of}
 use Rattle.public_fold.specs.StandFits.{entry_fits, has_count, note_fits}
-use Rattle.public_fold.specs.Told.{told_store}
 use Rattle.public_fold.specs.Valid.{IsNext, IsValid}
 use Rattle.public_fold.proofs.AllFit.{journal_all_fit}
 use Rattle.public_fold.proofs.HeldMarks.{begun_strict}
-use Rattle.public_fold.proofs.KeyMoves.{journal_holds, upgrade_moves}
+use Rattle.public_fold.proofs.KeyMoves.{journal_holds, journal_sound, upgrade_moves}
 use Rattle.public_fold.proofs.SerialsKept.{few_fresh, plan_short}
 use Rattle.journal_bytes.specs.Folds.{public_stand}
 use Rattle.journal_bytes.specs.Sealing.{IsSealable}
@@ -32,7 +30,7 @@ use Rattle.journal_bytes.specs.Upgrading.{upgrade_draws, upgrade_end, upgrade_pa
 use Rattle.journal_bytes.proofs.NextEntry.{begun_renewed, between, given_many, links_many, stand_between}
 use Rattle.journal_bytes.proofs.NextFits.{last_fits}
 use Rattle.journal_bytes.proofs.NextValid.{begins-append, begun_valid, end_between, end_then}
-use Rattle.journal_bytes.proofs.Sealable.{begun_sound, fresh_once, pieces_due, step_sealable}
+use Rattle.journal_bytes.proofs.Sealable.{fresh_once, pieces_due, step_sealable}
 use Rattle.journal_bytes.proofs.SeenFits.{fits_seen}
 
 -- ---- the step, whatever the epoch
@@ -127,7 +125,7 @@ unfolding entry_step note_step store_of keys_of steps_of
 upgrade_sealable m valid drawn =
     let at = stand_after nothing m in
     step_sealable at.store at.store at.keys (change_of (is_strict at.keys) at.store Upgrade) (links_of (steps_of m)) (pieces_of Upgrade at.store)
-    (upgrade_moves (is_strict at.keys) at.store (begun_sound m valid.0)) (journal_holds m valid) (fresh_once (is_strict at.keys) at.store Upgrade) (pieces_due Upgrade at.store)
+    (upgrade_moves (is_strict at.keys) at.store (journal_sound m valid)) (journal_holds m valid) (fresh_once (is_strict at.keys) at.store Upgrade) (pieces_due Upgrade at.store)
 
 -- ---- it fits, or the store is too full
 
@@ -162,7 +160,7 @@ upgrade_draws_few m has_begun valid low =
     let c = change_of strict at.store Upgrade in
     let p = renewed at.keys (edges at.store) c in
     let es = published_edges (edges at.store) c p in
-    let short : length p ≤ length es = plan_short at.store at.store at.keys c (links_of (steps_of m)) (upgrade_moves strict at.store (begun_sound m valid.0)) (journal_holds m valid) in
+    let short : length p ≤ length es = plan_short at.store at.store at.keys c (links_of (steps_of m)) (upgrade_moves strict at.store (journal_sound m valid)) (journal_holds m valid) in
     let joined : length (p ++ c.fresh) ≡ length p + length c.fresh = length-append p c.fresh in
     let fresh = few_fresh strict at.store Upgrade in
     let many : upgrade_draws m ≡ length (p ++ c.fresh) = ap (λ s. length s.given) (step_now at []) ∙ given_many at.keys (edges at.store) c [] in

@@ -1,22 +1,25 @@
 -- A journal with an accepted command is a journal, where its log ends within the store's limit.
-use Rattle.std.proofs.Common.{◌≡◌, inl, inr, ℕ, ◌+◌, ◌≤◌, Bool, true, false, cond, not, List, [], ◌∷◌, ◌++◌, length, find, Option, None, option_map, All, append-nil, arith, refl, sym, ap, subst, ◌∙◌}
+use Rattle.std.proofs.Common.{◌≡◌, inl, inr, ℕ, ◌+◌, ◌≤◌, Bool, true, false, cond, not, ◌&&◌, ◌||◌, List, [], ◌∷◌, ◌++◌, length, find, Option, None, option_map, All, append-nil, arith, refl, sym, ap, subst, ◌∙◌}
 use Rattle.std.specs.List.{sum_by}
 use Rattle.std.proofs.lemmas.Bool.{le-ltb, ltb-false}
 use Rattle.std.proofs.lemmas.List.Elements.{All-append, All-cons, All-nil}
 use Rattle.std.proofs.lemmas.List.Sums.{sum_by-append, sum_by-cons}
 use Rattle.cry_base.specs.Layout.{batch_len, header_len}
 use Rattle.cry_base.specs.Limits.{most_file_bytes, most_store_bytes}
-use Rattle.cry_base.specs.Refusing.{causes, changes_root, finds_name_taken, finds_no_holder, finds_no_path, goes_too_deep, grants_again, has_bad_name, is_too_long, moves_into_itself, needs_folder, refusal_of, removes_children, revokes_nothing, writes_folder}
+use Rattle.cry_base.specs.Refusing.{causes_in, changes_root, finds_name_taken, finds_no_holder, finds_no_path, goes_too_deep, grants_again, grants_on_file, has_bad_name, is_too_long, moves_into_itself, needs_folder, refusal_in, removes_children, revokes_nothing, writes_folder}
+use Rattle.cry_base.proofs.Versions.{accepted_in}
 use Rattle.cry_base.specs.Requests.{Request}
 use Rattle.cry_base.specs.Requests.Request.{AddHolder, MakeFolder, WriteFile, Remove, Rename, Relocate, Grant, Revoke}
 use Rattle.cry_base.specs.Store.{Store}
 use Rattle.cry_base.specs.declared.commands.Refusal.{Refusal}
 use Rattle.cry_base.specs.declared.commands.Refusal.TheVariants.{BadName, NoPath, IsRoot, NotFolder, IsFolder, Exists, NotEmpty, InsideItself, TooDeep, NoHolder, HasGrant, NoGrant, TooLong}
-use Rattle.public_fold.specs.Journal.{Entry, Journal, Stand, nothing, stand_then, stand_after, store_of}
+use Rattle.public_fold.specs.Journal.{Entry, Journal, Stand, nothing, keys_of, stand_then, stand_after, store_of}
 use Rattle.public_fold.specs.Journal.Entry.{Session, Made, Did, Upgraded}
+use Rattle.public_fold.specs.KeyStep.{is_strict}
 use Rattle.public_fold.specs.Lengths.{end_of, entry_payload, payloads_from}
 use Rattle.public_fold.specs.Valid.{BeginsWell, FollowOn, IsNext, IsValid}
-use Rattle.public_fold.proofs.Settling.{no_cause}
+use Rattle.public_fold.proofs.Causes.{no_cause_in}
+use Rattle.public_fold.proofs.HeldMarks.{begun_strict}
 use Rattle.journal_bytes.specs.Keys.{AreWhole, drawn_by}
 use Rattle.journal_bytes.specs.Script.{draws_of, due_end, due_payload, journal_then}
 use Rattle.journal_bytes.proofs.NextEntry.{between, given_begun, payload_weighs, stand_between}
@@ -34,13 +37,13 @@ long_still (Relocate path into) n more le e = refl
 long_still (Grant h path) n more le e = refl
 long_still (Revoke h path) n more le e = refl
 
-abbrev refusal_where : Store → Request → Bool → Option Refusal
-refusal_where s r long =
+abbrev refusal_where : Bool → Store → Request → Bool → Option Refusal
+refusal_where strict s r long =
     option_map (λ (cause : Bool × Refusal). cause.1) (find (λ (cause : Bool × Refusal). cause.0) (
     (has_bad_name r, BadName)
     ∷ (finds_no_path s r, NoPath)
     ∷ (changes_root r, IsRoot)
-    ∷ (needs_folder s r, NotFolder)
+    ∷ ((grants_on_file s r && not strict) || needs_folder s r, NotFolder)
     ∷ (writes_folder s r, IsFolder)
     ∷ (finds_name_taken s r, Exists)
     ∷ (removes_children s r, NotEmpty)
@@ -53,11 +56,11 @@ refusal_where s r long =
     ∷ []
     ))
 
-pub refusal_still : (s : Store) (r : Request) (n more : ℕ) → n ≤ more → refusal_of s r n ≡ None → refusal_of s r more ≡ None
-unfolding refusal_of causes
-refusal_still s r n more le e =
-    let short : is_too_long n r ≡ false = no_cause s r n (is_too_long n r) TooLong e (inr (inr (inr (inr (inr (inr (inr (inr (inr (inr (inr (inr (inl refl))))))))))))) in
-    ap (refusal_where s r) (long_still r n more le short ∙ sym short) ∙ e
+pub refusal_still : (strict : Bool) (s : Store) (r : Request) (n more : ℕ) → n ≤ more → refusal_in strict s r n ≡ None → refusal_in strict s r more ≡ None
+unfolding refusal_in causes_in
+refusal_still strict s r n more le e =
+    let short : is_too_long n r ≡ false = no_cause_in strict s r n (is_too_long n r) TooLong e (inr (inr (inr (inr (inr (inr (inr (inr (inr (inr (inr (inr (inl refl))))))))))))) in
+    ap (refusal_where strict s r) (long_still r n more le short ∙ sym short) ∙ e
 
 -- ---- entries behind others
 
@@ -119,20 +122,22 @@ session_whole owner m has_begun whole =
     let session : (b : Bool) → All sized (cond b [] (Session ∷ [])) = λ b. elim b as (λ b. All sized (cond b [] (Session ∷ []))) [ true ↦ All-nil sized | false ↦ one ] in
     record { owner_size = whole.owner_size; drawn_sizes = All-append sized m (cond has_begun [] (Session ∷ [])) whole.drawn_sizes (session has_begun) }
 
-module _ (m : Journal) (has_begun : Bool) (r : Request) (drawn : List (List ℕ)) (file_bytes : ℕ) (valid : IsValid m) (bound : file_bytes ≤ most_file_bytes) (none : refusal_of (store_of m) r file_bytes ≡ None)
+module _ (m : Journal) (has_begun : Bool) (r : Request) (drawn : List (List ℕ)) (file_bytes : ℕ) (valid : IsValid m) (bound : file_bytes ≤ most_file_bytes) (none : refusal_in (is_strict (keys_of m)) (store_of m) r file_bytes ≡ None)
     (many : length drawn ≡ draws_of m r) (sizes : All (λ (key : List ℕ). length key ≡ 32) drawn) where
   command_next : IsNext (stand_after nothing (between m has_begun)) (Did r drawn)
-  unfolding store_of draws_of
+  unfolding store_of keys_of draws_of
   command_next =
+      let at = stand_after nothing m in
+      let still = refusal_still (is_strict at.keys) at.store r file_bytes most_file_bytes bound none in
       subst (λ at. IsNext at (Did r drawn)) (sym (stand_between m has_begun))
-      (refusal_still (stand_after nothing m).store r file_bytes most_file_bytes bound none, many ∙ sym (given_begun (stand_after nothing m) r (not has_begun) drawn []))
+      (subst (λ strict. refusal_in strict at.store r most_file_bytes ≡ None) (sym (begun_strict (not has_begun) at.keys)) still, many ∙ sym (given_begun (stand_after nothing m) r (not has_begun) drawn []))
 
   pub end_then_is : end_of (journal_then m has_begun r drawn) ≡ due_end m has_begun r
   unfolding due_end
   end_then_is =
       let last = end_then (between m has_begun) (Did r drawn) in
       let size : entry_payload (stand_after nothing (between m has_begun)) (Did r drawn) ≡ due_payload m r =
-      ap (λ at. entry_payload at (Did r drawn)) (stand_between m has_begun) ∙ payload_weighs m (not has_begun) r drawn file_bytes valid none many sizes
+      ap (λ at. entry_payload at (Did r drawn)) (stand_between m has_begun) ∙ payload_weighs m (not has_begun) r drawn file_bytes valid (accepted_in (is_strict (keys_of m)) (store_of m) r file_bytes none) many sizes
       in
       let first = end_between m has_begun in
       omega (arith, last, size, first)

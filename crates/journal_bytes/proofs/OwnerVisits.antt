@@ -1,9 +1,10 @@
 -- The owner's visits open every name, file and key.
 use Rattle.std.proofs.Common.{◌≡◌, ◌≢◌, ⊎_elim, inl, inr, ℕ, Bool, true, false, List, [], ◌∷◌, ◌++◌, map, Option, Some, None, Ok, refl, sym, ap, subst, ◌∙◌}
-use Rattle.std.specs.Prelude.{IsSome, filter, if◌then◌else◌, nat_lt}
+use Rattle.std.specs.Prelude.{IsSome, IsTrue, filter, if◌then◌else◌, nat_lt}
 use Rattle.std.specs.List.{list_any}
 use Rattle.std.proofs.lemmas.Bool.{eq-eqb, false≢true, or_left, or_right}
 use Rattle.chacha_seal.specs.Keys.{KeyParts}
+use Rattle.cry_base.specs.Clearances.{clear_number}
 use Rattle.cry_base.specs.Sets.{In}
 use Rattle.cry_base.specs.Store.{Store, FolderEntry, FileEntry, HolderEntry}
 use Rattle.cry_base.specs.declared.roles.Edge.{Edge}
@@ -11,13 +12,14 @@ use Rattle.cry_base.specs.declared.roles.Role.{Role}
 use Rattle.cry_base.specs.declared.roles.Role.TheVariants.{Owner, Holder, Clear, Sub, Back, Files, Data, File}
 use Rattle.cry_base.proofs.Members.{In-append, In-flat_map, In-map, filter-In}
 use Rattle.log_visits.specs.Visiting.{Opened, Reading, key_of, visit, visit_all}
-use Rattle.log_visits.specs.Visits.{Visit, all_visits, allowed_visits, entry_edge, entry_visits, file_visits, files_that, folders_that, holder_visits, is_entry, lower_visits, name_visits, upper_visits, visits_to_names}
+use Rattle.log_visits.specs.Visits.{Visit, all_visits, allowed_visits, clearance_visits, entry_edge, entry_file_visits, entry_folder_visits, entry_visits, file_visits, files_that, folders_that, holder_visits, into_file, is_entry, lower_visits, name_visits, upper_visits, visits_to_names, writing_visits}
 use Rattle.log_visits.specs.Visits.Visit.{ToKey, ToName, ToFile, ToHolder}
 use Rattle.move_plan.specs.Change.{folder_of_file}
 use Rattle.move_plan.specs.Fitting.{public_of}
-use Rattle.role_graph.specs.Edges.{edge, file_edge}
-use Rattle.role_graph.specs.Rights.{allowed_to, named_to}
+use Rattle.role_graph.specs.Edges.{edge, file_edge, has_grants}
+use Rattle.role_graph.specs.Rights.{allowed_to, file_allowed_to, named_to}
 use Rattle.role_graph.specs.Rights.Who.{TheOwner}
+use Rattle.role_graph.specs.RightsByReach.{HasFolder, IsClearance}
 use Rattle.role_graph.specs.Roles.{back_of, clear_of, data_of, file_role, files_of, holder_role, same_role, sub_of}
 use Rattle.role_graph.proofs.Comparing.{same_role_tells}
 use Rattle.role_graph.proofs.Edging.{In-order}
@@ -77,10 +79,11 @@ in_right X x xs ys i = (In-append X x xs ys).1 (inr i)
 
 -- the visits that a folder has of each kind
 pub entry_of : (s : Store) (e : FolderEntry) (v : Visit) → In e s.folders → In v (ToKey (edge 1 Owner (clear_of e.id)) ∷ ToKey (edge 3 (clear_of e.id) (sub_of e.id)) ∷ []) → In v (entry_visits (public_of s) TheOwner)
-unfolding entry_visits entry_edge is_entry
+unfolding entry_visits entry_folder_visits entry_edge is_entry
 entry_of s e v i j =
-    (In-flat_map ℕ Visit (λ f. ToKey (edge 1 Owner (clear_of f)) ∷ ToKey (edge 3 (clear_of f) (sub_of f)) ∷ []) v (folders_that (is_entry (public_of s) TheOwner) (public_of s))).1
-    (e.id, folder_passes (is_entry (public_of s) TheOwner) s e i refl, j)
+    in_left Visit v (entry_folder_visits (public_of s) TheOwner) (entry_file_visits (public_of s) TheOwner)
+    ((In-flat_map ℕ Visit (λ f. ToKey (edge 1 Owner (clear_of f)) ∷ ToKey (edge 3 (clear_of f) (sub_of f)) ∷ []) v (folders_that (is_entry (public_of s) TheOwner) (public_of s))).1
+    (e.id, folder_passes (is_entry (public_of s) TheOwner) s e i refl, j))
 
 pub allowed_of : (s : Store) (e : FolderEntry) (v : Visit) → In e s.folders → In v (ToKey (edge 4 (sub_of e.id) (back_of e.id)) ∷ ToKey (edge 5 (sub_of e.id) (files_of e.id)) ∷ []) → In v (allowed_visits (public_of s) TheOwner)
 unfolding allowed_visits allowed_to
@@ -94,14 +97,22 @@ name_of s e v i j =
     (In-flat_map ℕ Visit (λ f. ToKey (edge 7 (back_of f) (data_of f)) ∷ ToName f ∷ []) v (folders_that (named_to (public_of s) TheOwner) (public_of s))).1
     (e.id, folder_passes (named_to (public_of s) TheOwner) s e i refl, j)
 
-file_of : (s : Store) (e : FileEntry) (v : Visit) → In e s.files → In v (ToKey (file_edge (folder_of_file (public_of s) e.id) e.id) ∷ ToFile e.id ∷ []) → In v (file_visits (public_of s) (files_that (λ d. allowed_to (public_of s) TheOwner d.folder) (public_of s)))
-unfolding file_visits allowed_to
+file_of : (s : Store) (e : FileEntry) (v : Visit) → In e s.files → In v (ToKey (file_edge (folder_of_file (public_of s) e.id) e.id) ∷ ToFile e.id ∷ []) → In v (file_visits (public_of s) TheOwner (files_that (file_allowed_to (public_of s) TheOwner) (public_of s)))
+unfolding file_visits into_file file_allowed_to allowed_to
 file_of s e v i j =
-    (In-flat_map ℕ Visit (λ x. ToKey (file_edge (folder_of_file (public_of s) x) x) ∷ ToFile x ∷ []) v (files_that (λ d. allowed_to (public_of s) TheOwner d.folder) (public_of s))).1
-    (e.id, file_passes (λ d. allowed_to (public_of s) TheOwner d.folder) s e i refl, j)
+    (In-flat_map ℕ Visit (λ x. ToKey (file_edge (folder_of_file (public_of s) x) x) ∷ ToFile x ∷ []) v (files_that (file_allowed_to (public_of s) TheOwner) (public_of s))).1
+    (e.id, file_passes (file_allowed_to (public_of s) TheOwner) s e i refl, j)
+
+-- the visit into the Clearance of a file with a grant
+clearance_of : (s : Store) (e : FileEntry) → In e s.files → IsTrue (has_grants s (clear_number e.id)) → In (ToKey (edge 1 Owner (clear_of (clear_number e.id)))) (clearance_visits (public_of s))
+unfolding clearance_visits has_grants public_of
+clearance_of s e i has =
+    let into : ℕ → Visit = λ x. ToKey (edge 1 Owner (clear_of (clear_number x))) in
+    (In-map ℕ Visit into (into e.id) (files_that (λ d. has_grants (public_of s) (clear_number d.id)) (public_of s))).1
+    (e.id, file_passes (λ d. has_grants (public_of s) (clear_number d.id)) s e i has, refl)
 
 abbrev pub all_of : Store → List Visit
-all_of s = all_visits (public_of s) TheOwner ++ holder_visits (public_of s)
+all_of s = all_visits (public_of s) TheOwner ++ writing_visits (public_of s)
 
 -- where they stand among all visits
 -- a visit of each part is one of all
@@ -122,12 +133,12 @@ module _ (s : Store) (v : Visit) where
   names = name_visits (public_of s) TheOwner
 
   abbrev files : List Visit
-  files = file_visits (public_of s) (files_that (λ d. allowed_to (public_of s) TheOwner d.folder) (public_of s))
+  files = file_visits (public_of s) TheOwner (files_that (file_allowed_to (public_of s) TheOwner) (public_of s))
 
   in_tree : In v (entries ++ (lowers ++ (insides ++ (uppers ++ names)))) → In v (all_of s)
   unfolding all_visits visits_to_names
   in_tree i =
-      in_left Visit v (all_visits (public_of s) TheOwner) (holder_visits (public_of s))
+      in_left Visit v (all_visits (public_of s) TheOwner) (writing_visits (public_of s))
       (in_left Visit v (entries ++ (lowers ++ (insides ++ (uppers ++ names)))) files i)
 
   in_entry : In v entries → In v (all_of s)
@@ -145,10 +156,15 @@ module _ (s : Store) (v : Visit) where
   in_files : In v files → In v (all_of s)
   unfolding all_visits
   in_files i =
-      in_left Visit v (all_visits (public_of s) TheOwner) (holder_visits (public_of s)) (in_right Visit v (visits_to_names (public_of s) TheOwner) files i)
+      in_left Visit v (all_visits (public_of s) TheOwner) (writing_visits (public_of s)) (in_right Visit v (visits_to_names (public_of s) TheOwner) files i)
 
 in_holders : (s : Store) (v : Visit) → In v (holder_visits (public_of s)) → In v (all_of s)
-in_holders s v i = in_right Visit v (all_visits (public_of s) TheOwner) (holder_visits (public_of s)) i
+unfolding writing_visits
+in_holders s v i = in_right Visit v (all_visits (public_of s) TheOwner) (writing_visits (public_of s)) (in_left Visit v (holder_visits (public_of s)) (clearance_visits (public_of s)) i)
+
+in_clearances : (s : Store) (v : Visit) → In v (clearance_visits (public_of s)) → In v (all_of s)
+unfolding writing_visits
+in_clearances s v i = in_right Visit v (all_visits (public_of s) TheOwner) (writing_visits (public_of s)) (in_right Visit v (holder_visits (public_of s)) (clearance_visits (public_of s)) i)
 
 -- ---- every text is seen
 
@@ -225,13 +241,24 @@ edge_open r (v ∷ vs) o after e done i =
     (λ (q : ToKey e ≡ v). all_stay r vs w.0 after e.to w.2 (edge_opens r v o w.0 e q w.1))
     (λ u. edge_open r vs w.0 after e w.2 u) i
 
+clear_open : (s : Store) (r : Reading) (o after : Opened) (f : ℕ) → visit_all r (all_of s) o ≡ Ok after → HasRole s (clear_of f) → IsSome (key_of after.keys (clear_of f))
+unfolding edge clear_of
+clear_open s r o after f done has = ⊎_elim
+    (λ (folder : HasFolder s f).
+    let v = edge 1 Owner (clear_of folder.0.id) in
+    subst (λ n. IsSome (key_of after.keys (clear_of n))) folder.2 (edge_open r (all_of s) o after v done (in_entry s (ToKey v) (entry_of s folder.0 (ToKey v) folder.1 (inl refl)))))
+    (λ (file : IsClearance s f).
+    let e = file.0.0 in
+    let v = edge 1 Owner (clear_of (clear_number e.id)) in
+    let granted : IsTrue (has_grants s (clear_number e.id)) = subst (λ n. IsTrue (has_grants s n)) (sym file.0.2) file.1 in
+    subst (λ n. IsSome (key_of after.keys (clear_of n))) file.0.2 (edge_open r (all_of s) o after v done (in_clearances s (ToKey v) (clearance_of s e file.0.1 granted))))
+    has
+
 role_open : (s : Store) (r : Reading) (o after : Opened) (role : Role) → visit_all r (all_of s) o ≡ Ok after → IsSome (key_of o.keys Owner) → ((h : ℕ) → role ≢ holder_role h) → HasRole s role → IsSome (key_of after.keys role)
 unfolding edge file_edge holder_role clear_of sub_of back_of files_of data_of file_role
 role_open s r o after Owner done first other has = all_stay r (all_of s) o after Owner done first
 role_open s r o after (Holder h) done first other has = absurd (other h.0 refl)
-role_open s r o after (Clear f) done first other has =
-    let v = edge 1 Owner (clear_of has.0.id) in
-    subst (λ n. IsSome (key_of after.keys (clear_of n))) has.2 (edge_open r (all_of s) o after v done (in_entry s (ToKey v) (entry_of s has.0 (ToKey v) has.1 (inl refl))))
+role_open s r o after (Clear f) done first other has = clear_open s r o after f.0 done has
 role_open s r o after (Sub f) done first other has =
     let v = edge 3 (clear_of has.0.id) (sub_of has.0.id) in
     subst (λ n. IsSome (key_of after.keys (sub_of n))) has.2 (edge_open r (all_of s) o after v done (in_entry s (ToKey v) (entry_of s has.0 (ToKey v) has.1 (inr (inl refl)))))

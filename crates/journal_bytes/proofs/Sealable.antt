@@ -1,13 +1,13 @@
 -- The steps of commands in valid journals can be sealed.
-use Rattle.std.proofs.Common.{◌≡◌, ◌≢◌, ⊎_elim, inl, inr, ℕ, ◌+◌, ◌≤◌, Bool, ◌==◌, List, [], ◌∷◌, ◌++◌, length, map, Option, Some, None, arith, refl, sym, ap, subst, ◌∙◌}
+use Rattle.std.proofs.Common.{◌≡◌, ◌≢◌, ⊎_elim, inl, inr, ℕ, ◌+◌, ◌≤◌, Bool, true, false, cond, ◌==◌, List, [], ◌∷◌, ◌++◌, length, map, Option, Some, None, arith, refl, sym, ap, subst, ◌∙◌}
 use Rattle.std.specs.Prelude.{unwrap_or}
 use Rattle.std.proofs.lemmas.Bool.{eqb-true, false≢true}
 use Rattle.std.proofs.lemmas.List.{length-map}
-use Rattle.cry_base.specs.Limits.{most_file_bytes}
+use Rattle.cry_base.specs.Clearances.{file_of}
 use Rattle.cry_base.specs.Sets.{In}
-use Rattle.cry_base.specs.Refusing.{refusal_of}
+use Rattle.cry_base.specs.Refusing.{refusal_in}
 use Rattle.cry_base.specs.Requests.{Request}
-use Rattle.cry_base.specs.Stepping.{effect}
+use Rattle.cry_base.specs.Stepping.{effect, without_grant}
 use Rattle.cry_base.specs.Store.{Store, FolderEntry, FileEntry, HolderEntry, folder_entry, file_entry, holder_entry}
 use Rattle.cry_base.specs.declared.roles.Edge.{Edge}
 use Rattle.cry_base.specs.declared.roles.Role.{Role}
@@ -15,24 +15,25 @@ use Rattle.cry_base.specs.declared.roles.Role.TheVariants.{Owner}
 use Rattle.cry_base.proofs.Finding.{find-found}
 use Rattle.cry_base.proofs.Members.{In-append, In-filter, In-map}
 use Rattle.role_graph.specs.Ascending.{IsAscending}
-use Rattle.role_graph.specs.Edges.{edges, IsEdge}
+use Rattle.role_graph.specs.Edges.{edges, grant_edge, has_grants, IsEdge}
 use Rattle.role_graph.specs.Roles.{clear_of, sub_of, back_of, files_of, data_of, file_role, folder_roles, is_root_role, variant_of}
 use Rattle.role_graph.proofs.Edging.{edges_told}
 use Rattle.role_graph.proofs.Rising.{ascending_ascends, before_self}
 use Rattle.role_graph.proofs.RowsOfEdges.{each_edge}
-use Rattle.move_plan.specs.Change.{Change, no_change, row_change, change_of}
+use Rattle.move_plan.specs.Change.{Change, edges_of_first, given_on, no_change, row_change, change_of, taken_from, without_roles}
 use Rattle.move_plan.specs.Noting.{note_of}
 use Rattle.record_format.specs.Noted.{Note}
 use Rattle.record_format.specs.Noted.Note.{Root, NewHolder, NewFolder, NewFile, Rewrite, NameFile, NameFolder, DropFile, DropFolder, ShiftFile, ShiftFolder, Give, Take, StrictRoot, Upgrade}
-use Rattle.public_fold.specs.Journal.{Entry, Journal, Stand, nothing, first_key, note_step, entry_step, entry_store, stand_then, stand_after, store_of, keys_of, steps_of}
-use Rattle.public_fold.specs.Journal.Entry.{Session, Made, Did, Upgraded}
+use Rattle.public_fold.specs.Journal.{Journal, nothing, first_key, note_step, entry_step, stand_after, store_of, keys_of, steps_of}
+use Rattle.public_fold.specs.Journal.Entry.{Did}
 use Rattle.public_fold.specs.Keyed.{HasRole, KeysHold, links_of}
 use Rattle.public_fold.specs.KeyStep.{KeyState, is_strict, content_of, contents_from, edges_then, given, is_published, key_step, keys_then, link_of, links_from, newest, next_serial, numbered, present, published, published_edges, renewed, step_with}
 use Rattle.public_fold.specs.Records.{Content, Link, Piece, file_piece, folder_piece, holder_piece, pieces_of, sealing_role}
-use Rattle.public_fold.specs.Valid.{BeginsWell, FollowOn, IsValid}
+use Rattle.public_fold.specs.Valid.{IsValid}
 use Rattle.public_fold.proofs.EdgesThen.{then_told}
 use Rattle.public_fold.proofs.KeepingKeys.{IsMove, keys_after, renewed_stands}
-use Rattle.public_fold.proofs.KeyMoves.{IsSound, command_moves, effect_sound, journal_holds, root_sound}
+use Rattle.public_fold.proofs.KeyMoves.{command_moves, journal_holds, journal_sound}
+use Rattle.public_fold.proofs.Numbers.{journal_numbers}
 use Rattle.public_fold.proofs.Serials.{numbered-length}
 use Rattle.journal_bytes.specs.Sealing.{EachOnce, IsSealable}
 use Rattle.journal_bytes.proofs.StepKeys.{numbered-roles}
@@ -61,9 +62,26 @@ folder_once f =
     let data_last : In (data_of f) [] → ⊥ = (λ n. n) in
     (clear, (sub, (back, (files, (data_last, tt)))))
 
+-- one of two changes brings no role twice, where neither does
+chosen_once : (b : Bool) (c d : Change) → EachOnce c.fresh → EachOnce d.fresh → EachOnce (cond b c d).fresh
+chosen_once true c d first second = first
+chosen_once false c d first second = second
+
+given_once_on : (s : Store) (h f : ℕ) (file : Option ℕ) → EachOnce (given_on s h f file).fresh
+unfolding given_on no_change
+given_once_on s h f None = tt
+given_once_on s h f (Some x) =
+    chosen_once (has_grants s f) (record no_change { added = grant_edge h f ∷ [] }) (record no_change { fresh = clear_of f ∷ []; added = edges_of_first s h x }) tt (λ i. i, tt)
+
+taken_once_from : (s : Store) (h f : ℕ) (file : Option ℕ) → EachOnce (taken_from s h f file).fresh
+unfolding taken_from without_roles no_change
+taken_once_from s h f None = tt
+taken_once_from s h f (Some x) =
+    chosen_once (has_grants (without_grant s h f) f) (record no_change { removed = grant_edge h f ∷ []; wanted = clear_of f ∷ [] }) (without_roles s (clear_of f ∷ [])) tt tt
+
 -- no note brings a role twice
 row_once : (s : Store) (note : Note) → EachOnce (row_change s note).fresh
-unfolding row_change no_change
+unfolding row_change without_roles no_change
 row_once s Root = folder_once 1
 row_once s (NewHolder h check) = (λ i. i, tt)
 row_once s (NewFolder f p) = folder_once f
@@ -75,8 +93,8 @@ row_once s (DropFile x) = tt
 row_once s (DropFolder f) = tt
 row_once s (ShiftFile x g) = tt
 row_once s (ShiftFolder g q) = tt
-row_once s (Give h f) = tt
-row_once s (Take h f) = tt
+row_once s (Give h f) = given_once_on s h f (file_of f)
+row_once s (Take h f) = taken_once_from s h f (file_of f)
 row_once s StrictRoot = folder_once 1
 row_once s Upgrade = tt
 
@@ -243,27 +261,7 @@ module _ (s t : Store) (k : KeyState) (c : Change) (links : List Link) (pieces :
 
 -- ---- in journals
 
-after_sound : (entries : List Entry) (at : Stand) → IsSound at.store → FollowOn at entries → IsSound (stand_after at entries).store
-unfolding stand_after stand_then entry_store
-after_sound [] at sound f = sound
-after_sound (Session ∷ entries) at sound f = after_sound entries (stand_then at Session) sound f.1
-after_sound (Made version keys ∷ entries) at sound f = absurd f.0
-after_sound (Did request keys ∷ entries) at sound f = after_sound entries (stand_then at (Did request keys)) (effect_sound at.store request (first_key keys) most_file_bytes f.0.0 sound) f.1
-after_sound (Upgraded keys ∷ entries) at sound f = after_sound entries (stand_then at (Upgraded keys)) sound f.1
-
-pub begun_sound : (m : Journal) → BeginsWell m → IsSound (stand_after nothing m).store
-unfolding stand_after stand_then entry_store nothing
-begun_sound [] b = absurd b
-begun_sound (Session ∷ []) b = absurd b
-begun_sound (Session ∷ Session ∷ es) b = absurd b
-begun_sound (Session ∷ Made version keys ∷ es) b = after_sound es (stand_then (stand_then nothing Session) (Made version keys)) root_sound b.1
-begun_sound (Session ∷ Did request keys ∷ es) b = absurd b
-begun_sound (Session ∷ Upgraded keys ∷ es) b = absurd b
-begun_sound (Made version keys ∷ es) b = absurd b
-begun_sound (Did request keys ∷ es) b = absurd b
-begun_sound (Upgraded keys ∷ es) b = absurd b
-
-pub command_sealable : (m : Journal) → IsValid m → (request : Request) (drawn : List (List ℕ)) (file_bytes : ℕ) → refusal_of (store_of m) request file_bytes ≡ None
+pub command_sealable : (m : Journal) → IsValid m → (request : Request) (drawn : List (List ℕ)) (file_bytes : ℕ) → refusal_in (is_strict (keys_of m)) (store_of m) request file_bytes ≡ None
     → IsSealable (entry_step (stand_after nothing m) (Did request drawn))
 unfolding entry_step note_step store_of keys_of steps_of
 command_sealable m valid request drawn file_bytes none =
@@ -271,4 +269,4 @@ command_sealable m valid request drawn file_bytes none =
     let note = note_of at.store request [] in
     let t = effect at.store request (first_key drawn) in
     step_sealable at.store t at.keys (change_of (is_strict at.keys) at.store note) (links_of (steps_of m)) (pieces_of note t)
-    (command_moves (is_strict at.keys) at.store request (first_key drawn) [] file_bytes none (begun_sound m valid.0)) (journal_holds m valid) (fresh_once (is_strict at.keys) at.store note) (pieces_due note t)
+    (command_moves (is_strict at.keys) at.store request (first_key drawn) [] file_bytes none (journal_numbers m valid) (journal_sound m valid)) (journal_holds m valid) (fresh_once (is_strict at.keys) at.store note) (pieces_due note t)

@@ -2,13 +2,14 @@
 use Rattle.std.proofs.Common.{◌≡◌, ℕ, ◌+◌, not, ◌==◌, ◌&&◌, ◌||◌, [], Option, Some, None, refl, ap, ◌∙◌, Bool}
 use Rattle.std.specs.Prelude.{is_some, nat_lt, nat_le}
 use Rattle.std.specs.Option.{option_map}
+use Rattle.cry_base.specs.Clearances.{file_of}
 use Rattle.cry_base.specs.Refusing.{deepest, has_child, height_of, is_node_within}
 use Rattle.cry_base.specs.Store.{Store, FolderEntry, FileEntry, HolderEntry, depth_of, file_entry, file_names, file_node, folder_entry, folder_names, folder_node, has_grant, holder_entry, is_within, node_names, nodes_of, way_to_root}
 use Rattle.folder_nodes.specs.Titles.{Titles, tree_store}
 use Rattle.folder_nodes.proofs.Lookups.{find-map}
 use Rattle.folder_nodes.proofs.Named.{child_named, depth_named, height_named, within_named}
 use Rattle.move_plan.specs.Change.{folder_of_file, parent_of_folder}
-use Rattle.move_plan.specs.Fitting.{file_stands, fits, folder_stands, has_depth_left, is_other_folder, may_go_into, needs_root, public_of, row_fits}
+use Rattle.move_plan.specs.Fitting.{clear_stands, file_stands, fits, folder_stands, has_depth_left, is_file_there, is_next_below, is_other_folder, may_be_granted, may_go_into, needs_root, public_of, row_fits}
 use Rattle.record_format.specs.Noted.{Note}
 use Rattle.record_format.specs.Noted.Note.{Root, NewHolder, NewFolder, NewFile, Rewrite, NameFile, NameFolder, DropFile, DropFolder, ShiftFile, ShiftFolder, Give, Take, StrictRoot, Upgrade}
 
@@ -90,12 +91,21 @@ go_into_seen s g q = λ i.
     && not (parent_seen s g i == q) && not (within_seen s q g i)
     && nat_le (depth_seen s q i + 1 + height_seen s g i) 64
 
+file_there_seen : (s : Store) (file : Option ℕ) → is_file_there (public_of s) file ≡ is_file_there s file
+unfolding is_file_there
+file_there_seen s None = refl
+file_there_seen s (Some x) = file_stands_seen s x
+
+granted_seen : (strict : Bool) (s : Store) (f : ℕ) → may_be_granted strict (public_of s) f ≡ may_be_granted strict s f
+unfolding may_be_granted clear_stands
+granted_seen strict s f = λ i. folder_stands_seen s f i || (strict && file_there_seen s (file_of f) i)
+
 row_seen : (strict : Bool) (s : Store) (note : Note) → row_fits strict (public_of s) note ≡ row_fits strict s note
 unfolding row_fits public_of has_grant
 row_seen strict s Root = refl
 row_seen strict s (NewHolder h check) = refl
-row_seen strict s (NewFolder f p) = ap (λ b. f == s.folders_made + 1 && b) (depth_left_seen s p)
-row_seen strict s (NewFile x f) = ap (λ b. x == s.files_made + 1 && b) (depth_left_seen s f)
+row_seen strict s (NewFolder f p) = ap (λ b. is_next_below f s.folders_made && b) (depth_left_seen s p)
+row_seen strict s (NewFile x f) = ap (λ b. is_next_below x s.files_made && b) (depth_left_seen s f)
 row_seen strict s (Rewrite x) = file_stands_seen s x
 row_seen strict s (NameFile x) = file_stands_seen s x
 row_seen strict s (NameFolder f) = other_folder_seen s f
@@ -103,7 +113,7 @@ row_seen strict s (DropFile x) = file_stands_seen s x
 row_seen strict s (DropFolder f) = λ i. other_folder_seen s f i && not (child_seen s f i)
 row_seen strict s (ShiftFile x g) = λ i. file_stands_seen s x i && depth_left_seen s g i && not (place_seen s x i == g)
 row_seen strict s (ShiftFolder g q) = go_into_seen s g q
-row_seen strict s (Give h f) = λ i. holder_stands_seen s h i && folder_stands_seen s f i && not (has_grant s h f)
+row_seen strict s (Give h f) = λ i. holder_stands_seen s h i && granted_seen strict s f i && not (has_grant s h f)
 row_seen strict s (Take h f) = refl
 row_seen strict s StrictRoot = refl
 row_seen strict s Upgrade = refl

@@ -14,7 +14,9 @@ use Rattle.commit_journal.specs.Logs.{holder_log, writer_log}
 use Rattle.commit_journal.specs.Placed.{PlainBody}
 use Rattle.cry_base.specs.Layout.{batch_len}
 use Rattle.cry_base.specs.Limits.{most_file_bytes, most_store_bytes}
-use Rattle.cry_base.specs.Refusing.{id_of, refusal_of}
+use Rattle.cry_base.specs.Refusing.{id_of, refusal_in}
+use Rattle.cry_base.proofs.Versions.{accepted_in}
+use Rattle.cry_base.specs.Clearances.{clear_base}
 use Rattle.cry_base.specs.Requests.{Request}
 use Rattle.cry_base.specs.Requests.Request.{AddHolder, MakeFolder, WriteFile, Remove, Rename, Relocate, Grant, Revoke}
 use Rattle.cry_base.specs.Sets.{In}
@@ -28,18 +30,18 @@ use Rattle.cry_base.specs.declared.roles.Role.TheVariants.{Owner, Holder, Clear,
 use Rattle.cry_base.proofs.Finding.{find-found}
 use Rattle.cry_base.proofs.Members.{In-any}
 use Rattle.key_links.proofs.SealedLemmas.{content_spellable, link_spellable}
-use Rattle.kind_table.specs.declared.nine.TheConstants.{NINE}
+use Rattle.kind_table.specs.declared.eleven.TheConstants.{ELEVEN}
 use Rattle.kind_table.specs.declared.table.Row.{Row}
 use Rattle.move_plan.specs.Change.{Change, change_of}
-use Rattle.move_plan.specs.Fitting.{file_stands, fits, folder_stands, has_depth_left, is_other_folder, may_go_into, row_fits}
+use Rattle.move_plan.specs.Fitting.{file_stands, fits, folder_stands, has_depth_left, is_next_below, is_other_folder, may_be_granted, may_go_into, row_fits}
 use Rattle.move_plan.specs.Noting.{note_of}
 use Rattle.record_format.specs.Noted.{Note}
 use Rattle.record_format.specs.Noted.Note.{Root, NewHolder, NewFolder, NewFile, Rewrite, NameFile, NameFolder, DropFile, DropFolder, ShiftFile, ShiftFolder, Give, Take, StrictRoot, Upgrade}
 use Rattle.record_format.specs.Spellable.{IsContent, IsLink, IsNote, IsSpellable, longest_text, shortest_text}
 use Rattle.record_format.specs.declared.note.Note.{Note as Declared}
 use Rattle.role_graph.specs.Edges.{edges}
-use Rattle.role_graph.specs.RightsByReach.{HasFolder}
-use Rattle.role_graph.specs.Roles.{role_id}
+use Rattle.role_graph.specs.RightsByReach.{HasClearNumber, HasFolder, IsClearance, MayBeGranted}
+use Rattle.role_graph.specs.Roles.{clear_of, role_id}
 use Rattle.role_graph.specs.Tabled.{row_of}
 use Rattle.public_fold.specs.Counted.{AreCounted}
 use Rattle.public_fold.specs.Journal.{Entry, Journal, Stand, nothing, first_key, note_step, entry_step, entry_store, stand_then, root_note}
@@ -50,11 +52,12 @@ use Rattle.public_fold.specs.Lengths.{end_of, entry_payload, payloads_from}
 use Rattle.public_fold.specs.Records.{Content, Link, Piece, file_piece, folder_piece, holder_piece, pieces_of, sealing_role, text_of}
 use Rattle.public_fold.specs.StandFits.{all_fit, entry_fits, has_count, note_fits}
 use Rattle.public_fold.specs.Valid.{BeginsWell, FollowOn, IsValid}
-use Rattle.public_fold.proofs.Accepting.{accepted}
 use Rattle.public_fold.proofs.AllFit.{journal_all_fit}
 use Rattle.public_fold.proofs.KeepingKeys.{IsMove, keys_after}
 use Rattle.public_fold.proofs.KeyMoves.{IsSound, command_moves, effect_sound, epoch_holds, nothing_holds, root_moves, root_sound, upgrade_moves}
 use Rattle.public_fold.proofs.NotesFit as notes
+use Rattle.public_fold.proofs.Numbers.{HasNumbers}
+use Rattle.public_fold.proofs.Rooting.{granted_there}
 use Rattle.public_fold.proofs.Serials.{contents_between, keys_between, links_between, numbered-length}
 use Rattle.public_fold.proofs.SerialsKept.{spent}
 use Rattle.journal_bytes.specs.Bytes as bytes
@@ -120,15 +123,22 @@ effect_made s (Revoke h path) key = omega arith
 folder_small : (s : Store) (f : ℕ) → AreCounted s → HasFolder s f → f ≤ made s
 folder_small s f c w = let low = c.each_folder w.0 w.1 in let same = w.2 in omega (arith, low, same)
 
-role_small : (s : Store) (r : Role) → AreCounted s → HasRole s r → role_id r ≤ made s
-unfolding role_id
+clear_small : (s : Store) (f : ℕ) → AreCounted s → HasRole s (clear_of f) → f ≤ clear_base + made s
+unfolding clear_of
+clear_small s f c w = ⊎_elim
+    (λ (folder : HasFolder s f). let low = folder_small s f c folder in omega (arith, low))
+    (λ (file : IsClearance s f). let low = c.each_file file.0.0 file.0.1 in let same = file.0.2 in omega (arith, low, same))
+    w
+
+role_small : (s : Store) (r : Role) → AreCounted s → HasRole s r → role_id r ≤ clear_base + made s
+unfolding role_id clear_of
 role_small s Owner c w = omega arith
 role_small s (Holder h) c w = let low = c.each_holder w.0 w.1 in let same = w.2 in omega (arith, low, same)
-role_small s (Clear f) c w = folder_small s f.0 c w
-role_small s (Sub f) c w = folder_small s f.0 c w
-role_small s (Back f) c w = folder_small s f.0 c w
-role_small s (Files f) c w = folder_small s f.0 c w
-role_small s (Data f) c w = folder_small s f.0 c w
+role_small s (Clear f) c w = clear_small s f.0 c w
+role_small s (Sub f) c w = let low = folder_small s f.0 c w in omega (arith, low)
+role_small s (Back f) c w = let low = folder_small s f.0 c w in omega (arith, low)
+role_small s (Files f) c w = let low = folder_small s f.0 c w in omega (arith, low)
+role_small s (Data f) c w = let low = folder_small s f.0 c w in omega (arith, low)
 role_small s (File x) c w = let low = c.each_file w.0 w.1 in let same = w.2 in omega (arith, low, same)
 
 -- ---- notes
@@ -164,17 +174,24 @@ other_there : (s : Store) (f : ℕ) → AreCounted s → is_other_folder s f ≡
 unfolding is_other_folder
 other_there s f c t = folder_there s f c (and_parts (folder_stands s f) (not (f == 1)) t).0
 
-grant_there : (s : Store) (h f : ℕ) → IsSound s → has_grant s h f ≡ true → (h ≤ made s) × (f ≤ made s)
+-- what may be granted has a number of a folder, or a file's clearance number
+granted_small : (s : Store) (f : ℕ) → AreCounted s → MayBeGranted s f → f ≤ clear_base + made s
+granted_small s f c w = ⊎_elim
+    (λ (folder : HasFolder s f). let low = folder_small s f c folder in omega (arith, low))
+    (λ (file : HasClearNumber s f). let low = c.each_file file.0 file.1 in let same = file.2 in omega (arith, low, same))
+    w
+
+grant_there : (s : Store) (h f : ℕ) → IsSound s → has_grant s h f ≡ true → (h ≤ made s) × (f ≤ clear_base + made s)
 unfolding has_grant
 grant_there s h f sound t =
     let w = (In-any GrantEntry (λ g. g.holder == h && g.folder == f) (λ g. (g.holder == h && g.folder == f) ≡ true) (λ g. (λ u. u, λ u. u)) s.grants).0 t in
     let both = and_parts (w.0.holder == h) (w.0.folder == f) w.2 in
     let holder = eqb-true w.0.holder h both.0 in
     let folder = eqb-true w.0.folder f both.1 in
-    let own = sound.held w.0 w.1 in
-    let low = sound.counted.each_holder own.0 own.1 in
+    let own = sound.rooted.held w.0 w.1 in
+    let low = sound.rooted.counted.each_holder own.0 own.1 in
     let same = own.2 in
-    (omega (arith, low, same, holder), folder_small s f sound.counted (subst (HasFolder s) folder (sound.settled.granted_stands w.0 w.1)))
+    (omega (arith, low, same, holder), granted_small s f sound.rooted.counted (subst (MayBeGranted s) folder (sound.rooted.granted_stands w.0 w.1)))
 
 into_there : (s : Store) (g q : ℕ) → AreCounted s → may_go_into s g q ≡ true → (g ≤ made s) × (q ≤ made s)
 unfolding may_go_into
@@ -185,36 +202,36 @@ into_there s g q c t =
     let one = and_parts (is_other_folder s g) (folder_stands s q) two.0 in
     (other_there s g c one.0, folder_there s q c one.1)
 
-note_small : (strict : Bool) (s : Store) (note : Note) → IsSound s → row_fits strict s note ≡ true → made s + 1 < 4294967296 → HasCheck note → IsNote (declared_note note)
-unfolding row_fits declared_note
+note_small : (strict : Bool) (s : Store) (note : Note) → IsSound s → row_fits strict s note ≡ true → made s + 1 < clear_base → HasCheck note → IsNote (declared_note note)
+unfolding row_fits is_next_below declared_note
 note_small strict s Root sound t small check = tt
 note_small strict s (NewHolder h c) sound t small check = let new = eqb-true h (s.holders_made + 1) t in (omega (arith, new, small), check)
 note_small strict s (NewFolder f p) sound t small check =
-    let both = and_parts (f == s.folders_made + 1) (has_depth_left s p) t in
-    let new = eqb-true f (s.folders_made + 1) both.0 in
-    let low = left_there s p sound.counted both.1 in (omega (arith, new, small), omega (arith, low, small))
+    let both = and_parts (is_next_below f s.folders_made) (has_depth_left s p) t in
+    let new = eqb-true f (s.folders_made + 1) (and_parts (f == s.folders_made + 1) (nat_lt f clear_base) both.0).0 in
+    let low = left_there s p sound.rooted.counted both.1 in (omega (arith, new, small), omega (arith, low, small))
 note_small strict s (NewFile x f) sound t small check =
-    let both = and_parts (x == s.files_made + 1) (has_depth_left s f) t in
-    let new = eqb-true x (s.files_made + 1) both.0 in
-    let low = left_there s f sound.counted both.1 in (omega (arith, new, small), omega (arith, low, small))
-note_small strict s (Rewrite x) sound t small check = let low = file_there s x sound.counted t in omega (arith, low, small)
-note_small strict s (NameFile x) sound t small check = let low = file_there s x sound.counted t in omega (arith, low, small)
-note_small strict s (NameFolder f) sound t small check = let low = other_there s f sound.counted t in omega (arith, low, small)
-note_small strict s (DropFile x) sound t small check = let low = file_there s x sound.counted t in omega (arith, low, small)
-note_small strict s (DropFolder f) sound t small check = let low = other_there s f sound.counted (and_parts (is_other_folder s f) _ t).0 in omega (arith, low, small)
+    let both = and_parts (is_next_below x s.files_made) (has_depth_left s f) t in
+    let new = eqb-true x (s.files_made + 1) (and_parts (x == s.files_made + 1) (nat_lt x clear_base) both.0).0 in
+    let low = left_there s f sound.rooted.counted both.1 in (omega (arith, new, small), omega (arith, low, small))
+note_small strict s (Rewrite x) sound t small check = let low = file_there s x sound.rooted.counted t in omega (arith, low, small)
+note_small strict s (NameFile x) sound t small check = let low = file_there s x sound.rooted.counted t in omega (arith, low, small)
+note_small strict s (NameFolder f) sound t small check = let low = other_there s f sound.rooted.counted t in omega (arith, low, small)
+note_small strict s (DropFile x) sound t small check = let low = file_there s x sound.rooted.counted t in omega (arith, low, small)
+note_small strict s (DropFolder f) sound t small check = let low = other_there s f sound.rooted.counted (and_parts (is_other_folder s f) _ t).0 in omega (arith, low, small)
 note_small strict s (ShiftFile x g) sound t small check =
     let two = and_parts _ _ t in
     let one = and_parts (file_stands s x) (has_depth_left s g) two.0 in
-    let first = file_there s x sound.counted one.0 in
-    let second = left_there s g sound.counted one.1 in (omega (arith, first, small), omega (arith, second, small))
+    let first = file_there s x sound.rooted.counted one.0 in
+    let second = left_there s g sound.rooted.counted one.1 in (omega (arith, first, small), omega (arith, second, small))
 note_small strict s (ShiftFolder g q) sound t small check =
-    let both = into_there s g q sound.counted t in
+    let both = into_there s g q sound.rooted.counted t in
     let first = both.0 in let second = both.1 in (omega (arith, first, small), omega (arith, second, small))
 note_small strict s (Give h f) sound t small check =
     let two = and_parts _ _ t in
-    let one = and_parts (is_some (holder_entry s h)) (folder_stands s f) two.0 in
-    let first = holder_there s h sound.counted one.0 in
-    let second = folder_there s f sound.counted one.1 in (omega (arith, first, small), omega (arith, second, small))
+    let one = and_parts (is_some (holder_entry s h)) (may_be_granted strict s f) two.0 in
+    let first = holder_there s h sound.rooted.counted one.0 in
+    let second = granted_small s f sound.rooted.counted (granted_there strict s f one.1) in (omega (arith, first, small), omega (arith, second, small))
 note_small strict s (Take h f) sound t small check =
     let both = grant_there s h f sound t in
     let first = both.0 in let second = both.1 in (omega (arith, first, small), omega (arith, second, small))
@@ -273,12 +290,12 @@ piece_small Upgrade t p c i = absurd i
 
 -- ---- records
 
-row_range : (r : Row) → In r NINE.rows → (1 ≤ r.number) × (r.number ≤ 9)
+row_range : (r : Row) → In r ELEVEN.rows → (1 ≤ r.number) × (r.number ≤ 11)
 row_range r i =
-    let both = and_parts (nat_le 1 r.number) (nat_le r.number 9) (In-list_all Row (λ q. nat_le 1 q.number && nat_le q.number 9) NINE.rows r refl i) in
-    (leb-true 1 r.number both.0, leb-true r.number 9 both.1)
+    let both = and_parts (nat_le 1 r.number) (nat_le r.number 11) (In-list_all Row (λ q. nat_le 1 q.number && nat_le q.number 11) ELEVEN.rows r refl i) in
+    (leb-true 1 r.number both.0, leb-true r.number 11 both.1)
 
-kind_range : (e : Edge) → In (row_of e) NINE.rows → (1 ≤ e.kind) × (e.kind ≤ 9)
+kind_range : (e : Edge) → In (row_of e) ELEVEN.rows → (1 ≤ e.kind) × (e.kind ≤ 11)
 unfolding row_of
 kind_range e i = row_range (row_of e) i
 
@@ -289,7 +306,7 @@ all_of_members X P (x ∷ xs) each = All-cons P x xs (each x (inl refl)) (all_of
 -- the numbers of a step are those of the format
 record AreSmall (keys : List KeyParts) (t : Store) (k : KeyState) : Type 0 where
   counted : AreCounted t
-  few : made t < 4294967296
+  few : made t < clear_base
   keyed : (r : Role) (n : ℕ) → newest k.keys r ≡ Some n → HasRole t r
   have : HaveKeys keys k
   below : (q : Role × ℕ) → In q k.keys → q.1 < next_serial k
@@ -359,7 +376,7 @@ module _ (keys : List KeyParts) (s t : Store) (k : KeyState) (c : Change) (links
       (λ old. let low = below q old in let rises = step_rises k (edges s) c ps in omega (arith, low, rises))
       (having.keys_after k (edges s) c ps q i)
 
-  step_small : AreCounted t → made t < 4294967296 → HaveKeys keys (key_step k (edges s) c ps).after → ((q : Role × ℕ) → In q k.keys → q.1 < next_serial k)
+  step_small : AreCounted t → made t < clear_base → HaveKeys keys (key_step k (edges s) c ps).after → ((q : Role × ℕ) → In q k.keys → q.1 < next_serial k)
       → (key_step k (edges s) c ps).after.epoch < 4294967296 → (key_step k (edges s) c ps).after.count < 4294967296 → AreSmall keys t (key_step k (edges s) c ps).after
   step_small counted few have below epoch count = record {
     counted = counted;
@@ -436,23 +453,23 @@ session_ready keys at links is fit fed =
       count = omega arith;
     }
 
-did_ready : (keys : List KeyParts) (at : Stand) (links : List Link) (r : Request) (drawn : List (List ℕ)) → IsReady keys at links → refusal_of at.store r most_file_bytes ≡ None → entry_fits at (Did r drawn) ≡ true → IsFed at (Did r drawn)
+did_ready : (keys : List KeyParts) (at : Stand) (links : List Link) (r : Request) (drawn : List (List ℕ)) → IsReady keys at links → HasNumbers at.store → refusal_in (is_strict at.keys) at.store r most_file_bytes ≡ None → entry_fits at (Did r drawn) ≡ true → IsFed at (Did r drawn)
     → IsReady (bytes.keys_then keys at (Did r drawn)) (stand_then at (Did r drawn)) (links ++ (entry_step at (Did r drawn)).links)
 unfolding stand_then entry_store entry_step note_step entry_fits
-did_ready keys at links r drawn is none fit fed =
+did_ready keys at links r drawn is few none fit fed =
     let s = at.store in
     let note = note_of s r [] in
     let t = effect s r (first_key drawn) in
     let strict = is_strict at.keys in
     let c = change_of strict s note in
     let ps = pieces_of note t in
-    let mv = command_moves strict s r (first_key drawn) [] most_file_bytes none is.sound in
+    let mv = command_moves strict s r (first_key drawn) [] most_file_bytes none few is.sound in
     let told = fit_told at note (entry_step at (Did r drawn)) fit in
     let same = same_epoch at.keys (edges s) c ps in
     let low = is.epoch in
     record {
-      sound = effect_sound s r (first_key drawn) most_file_bytes none is.sound;
-      short = effect_short s r (first_key drawn) none is.short;
+      sound = effect_sound strict s r (first_key drawn) most_file_bytes none few is.sound;
+      short = effect_short s r (first_key drawn) (accepted_in strict s r most_file_bytes none) is.short;
       ok = keys_after s t at.keys c links mv is.ok ps;
       have = have_then keys at (Did r drawn) is.have fed;
       below = step_below keys s t at.keys c links ps mv is.ok (fresh_once strict s note) (pieces_due note t) is.below;
@@ -460,32 +477,34 @@ did_ready keys at links r drawn is none fit fed =
       count = told.1;
     }
 
-command_note : (s : Store) (r : Request) (key : List ℕ) → IsSound s → refusal_of s r most_file_bytes ≡ None → made s + 1 < 4294967296 → IsNote (declared_note (note_of s r (check_of key)))
-command_note s r key sound none few =
+command_note : (strict : Bool) (s : Store) (r : Request) (key : List ℕ) → IsSound s → HasNumbers s → refusal_in strict s r most_file_bytes ≡ None → made s + 1 < clear_base → IsNote (declared_note (note_of s r (check_of key)))
+unfolding fits
+command_note strict s r key sound few none low =
     let check = check_of key in
-    note_small false s (note_of s r check) sound (notes.note_fits false s r check sound.tree (accepted s r most_file_bytes none)) few (note_of_weighs s r check (length-check_of key)).0
+    let fit = and_parts (row_fits strict s (note_of s r check)) _ (notes.accepted_fits strict s r check most_file_bytes none few sound.tree) in
+    note_small strict s (note_of s r check) sound fit.0 low (note_of_weighs s r check (length-check_of key)).0
 
-did_spelled : (keys : List KeyParts) (at : Stand) (links : List Link) (r : Request) (drawn : List (List ℕ)) → IsReady keys at links → refusal_of at.store r most_file_bytes ≡ None → entry_fits at (Did r drawn) ≡ true → IsFed at (Did r drawn) → made at.store + 1 < 4294967296
+did_spelled : (keys : List KeyParts) (at : Stand) (links : List Link) (r : Request) (drawn : List (List ℕ)) → IsReady keys at links → HasNumbers at.store → refusal_in (is_strict at.keys) at.store r most_file_bytes ≡ None → entry_fits at (Did r drawn) ≡ true → IsFed at (Did r drawn) → made at.store + 1 < clear_base
     → IsSpellable (step_payload (bytes.keys_then keys at (Did r drawn)) (declared_note (note_of at.store r (check_of (first_key drawn)))) (entry_step at (Did r drawn)))
 unfolding entry_step note_step entry_fits drawn_by
-did_spelled keys at links r drawn is none fit fed few =
+did_spelled keys at links r drawn is few none fit fed low_made =
     let s = at.store in
     let note = note_of s r [] in
     let t = effect s r (first_key drawn) in
     let strict = is_strict at.keys in
     let c = change_of strict s note in
     let ps = pieces_of note t in
-    let mv = command_moves strict s r (first_key drawn) [] most_file_bytes none is.sound in
+    let mv = command_moves strict s r (first_key drawn) [] most_file_bytes none few is.sound in
     let told = fit_told at note (entry_step at (Did r drawn)) fit in
     let same = same_epoch at.keys (edges s) c ps in
     let low = is.epoch in
-    let sound_after = effect_sound s r (first_key drawn) most_file_bytes none is.sound in
+    let sound_after = effect_sound strict s r (first_key drawn) most_file_bytes none few is.sound in
     let more = effect_made s r (first_key drawn) in
     let later = bytes.keys_then keys at (Did r drawn) in
-    let small = step_small later s t at.keys c links ps mv is.ok (fresh_once strict s note) (pieces_due note t) sound_after.counted (omega (arith, more, few)) (have_then keys at (Did r drawn) is.have fed) is.below (omega (arith, same, low)) told.1 in
+    let small = step_small later s t at.keys c links ps mv is.ok (fresh_once strict s note) (pieces_due note t) sound_after.rooted.counted (omega (arith, more, low_made)) (have_then keys at (Did r drawn) is.have fed) is.below (omega (arith, same, low)) told.1 in
     step_spelled later s t at.keys c links ps mv is.ok (fresh_once strict s note) (pieces_due note t) (declared_note (note_of s r (check_of (first_key drawn))))
-    (command_note s r (first_key drawn) is.sound none few) small told.1 (λ p i. piece_small note t p sound_after.counted i)
-    (command_contents at r drawn is.sound is.short none (key_sized at r drawn fed.many fed.sizes))
+    (command_note strict s r (first_key drawn) is.sound few none low_made) small told.1 (λ p i. piece_small note t p sound_after.rooted.counted i)
+    (command_contents at r drawn is.sound is.short (accepted_in strict s r most_file_bytes none) (key_sized at r drawn fed.many fed.sizes))
 
 upgraded_ready : (keys : List KeyParts) (at : Stand) (links : List Link) (drawn : List (List ℕ)) → IsReady keys at links → entry_fits at (Upgraded drawn) ≡ true → IsFed at (Upgraded drawn)
     → IsReady (bytes.keys_then keys at (Upgraded drawn)) (stand_then at (Upgraded drawn)) (links ++ (entry_step at (Upgraded drawn)).links)
@@ -509,7 +528,7 @@ upgraded_ready keys at links drawn is fit fed =
       count = told.1;
     }
 
-upgraded_spelled : (keys : List KeyParts) (at : Stand) (links : List Link) (drawn : List (List ℕ)) → IsReady keys at links → entry_fits at (Upgraded drawn) ≡ true → IsFed at (Upgraded drawn) → made at.store + 1 < 4294967296
+upgraded_spelled : (keys : List KeyParts) (at : Stand) (links : List Link) (drawn : List (List ℕ)) → IsReady keys at links → entry_fits at (Upgraded drawn) ≡ true → IsFed at (Upgraded drawn) → made at.store + 1 < clear_base
     → IsSpellable (step_payload (bytes.keys_then keys at (Upgraded drawn)) (declared_note Upgrade) (entry_step at (Upgraded drawn)))
 unfolding entry_step note_step entry_fits drawn_by declared_note
 upgraded_spelled keys at links drawn is fit fed few =
@@ -522,9 +541,9 @@ upgraded_spelled keys at links drawn is fit fed few =
     let same = same_epoch at.keys (edges s) c ps in
     let low = is.epoch in
     let later = bytes.keys_then keys at (Upgraded drawn) in
-    let small = step_small later s s at.keys c links ps mv is.ok (fresh_once strict s Upgrade) (pieces_due Upgrade s) is.sound.counted (omega (arith, few)) (have_then keys at (Upgraded drawn) is.have fed) is.below (omega (arith, same, low)) told.1 in
+    let small = step_small later s s at.keys c links ps mv is.ok (fresh_once strict s Upgrade) (pieces_due Upgrade s) is.sound.rooted.counted (omega (arith, few)) (have_then keys at (Upgraded drawn) is.have fed) is.below (omega (arith, same, low)) told.1 in
     step_spelled later s s at.keys c links ps mv is.ok (fresh_once strict s Upgrade) (pieces_due Upgrade s) (declared_note Upgrade)
-    tt small told.1 (λ p i. piece_small Upgrade s p is.sound.counted i) (upgraded_contents at drawn)
+    tt small told.1 (λ p i. piece_small Upgrade s p is.sound.rooted.counted i) (upgraded_contents at drawn)
 
 -- a batch of an epoch, and one of a command
 session_bodies : (keys : List KeyParts) (at : Stand) (rest : List PlainBody) → AreBodies (stand_then at Session).keys.epoch rest → AreBodies at.keys.epoch (entry_body keys at Session ∷ rest)
@@ -587,9 +606,10 @@ spell (Did r drawn ∷ entries) keys at links is low follow fit fed =
     let both = and_parts (entry_fits at (Did r drawn)) (all_fit next entries) fit in
     let sum = sum_by-cons (λ len. batch_len + len) (entry_payload at (Did r drawn)) (payloads_from next entries) in
     let more = did_made at r drawn in
+    let left : HasNumbers at.store = (omega (arith, low, sum), omega (arith, low, sum)) in
     did_bodies later at r drawn (bodies_from later next entries) (did_begun at r drawn both.0)
-    (did_spelled keys at links r drawn is follow.0.0 both.0 fed.0 (omega (arith, low, sum)))
-    (spell entries later next (links ++ (entry_step at (Did r drawn)).links) (did_ready keys at links r drawn is follow.0.0 both.0 fed.0) (omega (arith, low, sum, more)) follow.1 both.1 fed.1)
+    (did_spelled keys at links r drawn is left follow.0.0 both.0 fed.0 (omega (arith, low, sum)))
+    (spell entries later next (links ++ (entry_step at (Did r drawn)).links) (did_ready keys at links r drawn is left follow.0.0 both.0 fed.0) (omega (arith, low, sum, more)) follow.1 both.1 fed.1)
 spell (Upgraded drawn ∷ entries) keys at links is low follow fit fed =
     let later = bytes.keys_then keys at (Upgraded drawn) in
     let next = stand_then at (Upgraded drawn) in
@@ -660,9 +680,9 @@ root_spelled keys version drawn have fit fed =
     let one = numbers.0 in
     let later = bytes.keys_then keys begun (Made version drawn) in
     let few = root_made in
-    let small = step_small later no_store root_store k c [] ps (root_moves version) nothing_holds (fresh_once false no_store (root_note version)) (pieces_due (root_note version) root_store) root_sound.counted (omega (arith, few)) (have_then keys begun (Made version drawn) have fed) first_below (omega (arith, same, one)) told.1 in
+    let small = step_small later no_store root_store k c [] ps (root_moves version) nothing_holds (fresh_once false no_store (root_note version)) (pieces_due (root_note version) root_store) root_sound.rooted.counted (omega (arith, few)) (have_then keys begun (Made version drawn) have fed) first_below (omega (arith, same, one)) told.1 in
     step_spelled later no_store root_store k c [] ps (root_moves version) nothing_holds (fresh_once false no_store (root_note version)) (pieces_due (root_note version) root_store) (declared_note (root_note version))
-    (root_is_note version) small told.1 (λ p i. piece_small (root_note version) root_store p root_sound.counted i) (made_contents version drawn)
+    (root_is_note version) small told.1 (λ p i. piece_small (root_note version) root_store p root_sound.rooted.counted i) (made_contents version drawn)
 
 root_bodies : (keys : List KeyParts) (version : ℕ) (drawn : List (List ℕ)) (rest : List PlainBody) → IsSpellable (step_payload keys (declared_note (root_note version)) (entry_step begun (Made version drawn)))
     → AreBodies (stand_then begun (Made version drawn)).keys.epoch rest → AreBodies begun.keys.epoch (entry_body keys begun (Made version drawn) ∷ rest)

@@ -200,7 +200,7 @@ named_sized p f name of is named other = let n = name_size name named in sized_a
 made_other : (s : Store) → IsSound s → s.folders_made + 1 ≢ 1
 made_other s sound e =
     let root = sound.tree.root_stands in
-    let low : root.0.id ≤ s.folders_made = sound.counted.each_folder root.0 root.1 in
+    let low : root.0.id ≤ s.folders_made = sound.rooted.counted.each_folder root.0 root.1 in
     let one : root.0.id ≡ 1 = root.2 in
     absurd (omega (arith, low, one, e))
 
@@ -279,7 +279,7 @@ pub command_sized : (s : Store) (r : Request) (key check : List ℕ) → IsSound
     → (p : Piece) → In p (pieces_of (note_of s r check) (effect s r key)) → IsSized p
 command_sized s r key check sound short none size p i =
     let a = accepted s r most_file_bytes none in
-    sized s r key check sound short none a size p i (sealed s r key check a sound.counted sound.tree p i)
+    sized s r key check sound short none a size p i (sealed s r key check a sound.rooted.counted sound.tree p i)
 
 -- the root's name is empty
 pub root_sized : (p : Piece) → In p (pieces_of Root root_store) → IsSized p

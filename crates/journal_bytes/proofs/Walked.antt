@@ -17,7 +17,7 @@ use Rattle.key_links.specs.Sealed.{sealed_content, sealed_link}
 use Rattle.kind_table.specs.Kinds.{kind_of}
 use Rattle.kind_table.specs.declared.kinds.RoleKind.{RoleKind}
 use Rattle.kind_table.specs.declared.kinds.RoleKind.TheVariants as kinds
-use Rattle.kind_table.specs.declared.nine.TheConstants.{NINE}
+use Rattle.kind_table.specs.declared.eleven.TheConstants.{ELEVEN}
 use Rattle.kind_table.specs.declared.table.Row.{Row}
 use Rattle.move_plan.specs.Change.{Change}
 use Rattle.record_format.specs.Plain.{PlainContent}
@@ -121,10 +121,10 @@ In-list_all X test (y ∷ ys) x all here =
     let both = and_parts (test y) (list_all test ys) all in
     ⊎_elim (λ (e : x ≡ y). ap test e ∙ both.0) (λ others. In-list_all X test ys x both.1 others) here
 
-other_target : (e : Edge) → In (row_of e) NINE.rows → e.to ≢ Owner
+other_target : (e : Edge) → In (row_of e) ELEVEN.rows → e.to ≢ Owner
 unfolding row_of is_owner kind_of
 other_target e i q =
-    let passes : not (is_owner (kind_of e.to)) ≡ true = In-list_all Row (λ r. not (is_owner r.to)) NINE.rows (row_of e) refl i in
+    let passes : not (is_owner (kind_of e.to)) ≡ true = In-list_all Row (λ r. not (is_owner r.to)) ELEVEN.rows (row_of e) refl i in
     let fails : not (is_owner (kind_of e.to)) ≡ false = ap (λ r. not (is_owner (kind_of r))) q in
     false≢true (sym fails ∙ passes)
 

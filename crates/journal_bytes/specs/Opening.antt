@@ -11,7 +11,7 @@ use Rattle.cry_base.specs.declared.roles.Role.TheVariants.{Owner}
 use Rattle.log_visits.specs.Found.{is_of}
 use Rattle.log_visits.specs.Placing.{PlacedContent, last_one, log_contents}
 use Rattle.log_visits.specs.Visiting.{Opened, Reading, key_of}
-use Rattle.log_visits.specs.Visits.{Visit, all_visits, holder_visits}
+use Rattle.log_visits.specs.Visits.{Visit, all_visits, writing_visits}
 use Rattle.log_visits.specs.Visits.Visit.{ToKey, ToName, ToFile, ToHolder}
 use Rattle.key_links.specs.Sealed.{sealed_content}
 use Rattle.move_plan.specs.Fitting.{public_of}
@@ -59,9 +59,9 @@ abbrev pub AreDrawn : List KeyParts → KeyState → List (Role × List ℕ) →
 AreDrawn keys k opened = (role : Role) (bytes : List ℕ) → key_of opened role ≡ Some bytes → (n : ℕ) × (newest k.keys role ≡ Some n)
     × (bytes ≡ bytes_in keys n)
 
--- the owner visits everything, and each holder's key
+-- the owner visits everything, each holder's key, and the Clearance of each file with a grant
 abbrev pub owner_visits : Journal → List Visit
-owner_visits m = all_visits (public_stand m).store TheOwner ++ holder_visits (public_stand m).store
+owner_visits m = all_visits (public_stand m).store TheOwner ++ writing_visits (public_stand m).store
 
 -- whether a visit is to the name of this folder, to this file, to the key of this holder
 unfoldable pub is_to_name : ℕ → Visit → Bool

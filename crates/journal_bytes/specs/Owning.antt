@@ -1,6 +1,6 @@
 -- What of a store the owner keeps beside its keys. This project's own, docs/MODEL.md.
 use Rattle.std.specs.Prelude.{◌≡◌, true, false, Option, None}
-use Rattle.cry_base.specs.Refusing.{id_of}
+use Rattle.cry_base.specs.Refusing.{granted_id}
 use Rattle.cry_base.specs.Requests.{Request}
 use Rattle.cry_base.specs.Requests.Request.{AddHolder, MakeFolder, WriteFile, Remove, Rename, Relocate, Grant, Revoke}
 use Rattle.cry_base.specs.Store.{Store, node_at}
@@ -22,7 +22,7 @@ pub record IsStoreOf (t : Store) (names : Titles) (granted : Granted) (s : Store
   pub tree : IsTreeOf (tree_store t names) s
   pub grants : AreGrantsOf granted.checks granted.pairs s
 
--- why the grants refuse a command, where its path finds a folder of the tree
+-- why the grants refuse a command, where its path finds a folder or file of the tree
 abbrev pub refusal_for_grants : Store → Granted → Request → Option Refusal
 refusal_for_grants t g AddHolder = None
 refusal_for_grants t g (MakeFolder path) = None
@@ -30,5 +30,5 @@ refusal_for_grants t g (WriteFile path bytes) = None
 refusal_for_grants t g (Remove path) = None
 refusal_for_grants t g (Rename path name) = None
 refusal_for_grants t g (Relocate path into) = None
-refusal_for_grants t g (Grant h path) = refusal_of_grant g.checks g.pairs true h (id_of (node_at t path))
-refusal_for_grants t g (Revoke h path) = refusal_of_grant g.checks g.pairs false h (id_of (node_at t path))
+refusal_for_grants t g (Grant h path) = refusal_of_grant g.checks g.pairs true h (granted_id (node_at t path))
+refusal_for_grants t g (Revoke h path) = refusal_of_grant g.checks g.pairs false h (granted_id (node_at t path))

@@ -3,7 +3,7 @@ use Rattle.std.specs.Prelude.{ℕ, ◌+◌, ◌≤◌, cond, List, [], ◌∷◌
 use Rattle.chacha_seal.specs.Keys.{KeyParts}
 use Rattle.cry_base.specs.Sets.{In}
 use Rattle.cry_base.specs.declared.roles.Role.{Role}
-use Rattle.kind_table.specs.declared.nine.TheConstants.{NINE}
+use Rattle.kind_table.specs.declared.eleven.TheConstants.{ELEVEN}
 use Rattle.key_links.specs.Ringed.{Ringed, key_of}
 use Rattle.key_links.specs.Ended as ended
 use Rattle.key_links.specs.Sealed.{sealed_content, sealed_link}
@@ -32,7 +32,7 @@ held_key ring role = unwrap_or (key_of ring role) (key_for role 0 [])
 
 -- both ends of the link have keys in the ring, and it is of a kind that there is
 pub record IsHeld (ring : Ringed) (l : Link) : Type 0 where
-  pub is_tabled : In (row_of l.edge) NINE.rows
+  pub is_tabled : In (row_of l.edge) ELEVEN.rows
   pub source : IsSome (key_of ring l.edge.from)
   pub target : IsSome (key_of ring l.edge.to)
 

@@ -4,7 +4,7 @@ use Rattle.std.specs.Prelude.{Option, Some, None}
 use Rattle.cry_base.specs.Layout.{batch_len}
 use Rattle.cry_base.specs.Requests.{Request}
 use Rattle.cry_base.specs.Requests.Request.{AddHolder, MakeFolder, WriteFile, Remove, Rename, Relocate, Grant, Revoke}
-use Rattle.cry_base.specs.Refusing.{refusal_of}
+use Rattle.cry_base.specs.Refusing.{refusal_in}
 use Rattle.cry_base.specs.declared.commands.Refusal.{Refusal}
 use Rattle.cry_base.specs.declared.commands.Reply.{Reply}
 use Rattle.cry_base.specs.declared.commands.Reply.TheVariants as replies
@@ -12,6 +12,7 @@ use Rattle.cry_base.specs.declared.limits.Limits.{Limits}
 use Rattle.cry_base.specs.declared.commands.Refusal.TheVariants.{Full}
 use Rattle.public_fold.specs.Journal.{Journal, nothing, first_key, entry_step, stand_after}
 use Rattle.public_fold.specs.Journal.Entry.{Session, Did}
+use Rattle.public_fold.specs.KeyStep.{is_strict}
 use Rattle.public_fold.specs.Lengths.{entry_payload, end_of}
 
 -- how many keys a command draws, 32 bytes each
@@ -26,14 +27,14 @@ due_payload m r = entry_payload (stand_after nothing m) (Did r (replicate 32 0 �
 unfoldable pub due_end : Journal → Bool → Request → ℕ
 due_end m begun r = end_of m + cond begun 0 batch_len + batch_len + due_payload m r
 
--- the refusal of a command, if there is one: that of the plain store, and full where its batch would go past the store limit
+-- the refusal of a command, if there is one: that of the plain store in its version, and full where its batch would go past the store limit
 unfoldable pub answer_with : Option Refusal → Bool → Option Refusal
 answer_with (Some why) full = Some why
 answer_with None true = Some Full
 answer_with None false = None
 
 unfoldable pub answer : Limits → Journal → Bool → Request → Option Refusal
-answer limits m begun r = answer_with (refusal_of (stand_after nothing m).store r limits.file_bytes)
+answer limits m begun r = answer_with (refusal_in (is_strict (stand_after nothing m).keys) (stand_after nothing m).store r limits.file_bytes)
     (nat_lt limits.store_bytes (due_end m begun r))
 
 -- the reply to a command that is accepted

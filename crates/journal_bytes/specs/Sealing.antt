@@ -6,7 +6,7 @@ use Rattle.chacha_seal.specs.Serials.{Counting}
 use Rattle.cry_base.specs.Sets.{In}
 use Rattle.cry_base.specs.declared.roles.Role.{Role}
 use Rattle.cry_base.specs.declared.roles.Role.TheVariants.{Owner}
-use Rattle.kind_table.specs.declared.nine.TheConstants.{NINE}
+use Rattle.kind_table.specs.declared.eleven.TheConstants.{ELEVEN}
 use Rattle.key_links.specs.Ended as ended
 use Rattle.key_links.specs.Ringed.{Ringed, key_of}
 use Rattle.record_format.specs.Noted.{Note}
@@ -37,7 +37,7 @@ WillHave ring given role = IsSome (key_of ring role) ⊎ In role (map (λ key. k
 
 -- the link is of a kind that there is, and its ends have keys, or get them
 pub record CanLink (ring : Ringed) (given : List (Role × ℕ)) (l : Link) : Type 0 where
-  pub is_tabled : In (row_of l.edge) NINE.rows
+  pub is_tabled : In (row_of l.edge) ELEVEN.rows
   pub has_source : WillHave ring given l.edge.from
   pub has_target : WillHave ring given l.edge.to
 
@@ -79,7 +79,7 @@ EachOnce (r ∷ rs) = (In r rs → ⊥) × EachOnce rs
 pub record IsSealable (step : Stepped) : Type 0 where
   pub given_once : EachOnce (map (λ key. key.0) step.given)
   pub no_owner : (key : Role × ℕ) → In key step.given → key.0 ≢ Owner
-  pub tabled : (l : Link) → In l step.links → In (row_of l.edge) NINE.rows
+  pub tabled : (l : Link) → In l step.links → In (row_of l.edge) ELEVEN.rows
   pub sources : (l : Link) → In l step.links → newest step.after.keys l.edge.from ≡ Some l.from_serial
   pub targets : (l : Link) → In l step.links → newest step.after.keys l.edge.to ≡ Some l.to_serial
   pub one_content : length step.contents ≤ 1

@@ -2,7 +2,7 @@
 ghost use Rattle.std.specs.Prelude.{◌≡◌, ◌+◌, ◌<◌, ◌≤◌, ◌^◌, ℕ, IsTrue, List, None, length, true};
 ghost use Rattle.chacha_seal.specs.Keys.{KeyParts};
 ghost use Rattle.chacha_seal.specs.Serials.{Counting};
-ghost use Rattle.cry_base.specs.Refusing.{refusal_of};
+ghost use Rattle.cry_base.specs.Refusing.{refusal_in, refusal_of};
 ghost use Rattle.cry_base.specs.Requests.{Request};
 ghost use Rattle.cry_base.specs.Sets.{In};
 ghost use Rattle.cry_base.specs.Store.{Store};
@@ -13,7 +13,7 @@ ghost use Rattle.public_fold.specs.Fitted.{told_step};
 ghost use Rattle.public_fold.specs.Heads.{IsSkeleton};
 ghost use Rattle.public_fold.specs.Journal.{Journal, Stand, entry_step, keys_of, note_step, nothing, stand_after, store_of};
 ghost use Rattle.public_fold.specs.Journal.Entry.{Did};
-ghost use Rattle.public_fold.specs.KeyStep.{KeyState, next_epoch, next_serial};
+ghost use Rattle.public_fold.specs.KeyStep.{KeyState, is_strict, next_epoch, next_serial};
 ghost use Rattle.public_fold.specs.StandFits.{note_fits};
 ghost use Rattle.public_fold.specs.Turns.{Turn, turns_fit, turns_stand};
 ghost use Rattle.public_fold.specs.Valid.{IsValid};
@@ -26,7 +26,7 @@ ghost use Rattle.journal_bytes.specs.Sealing.{CanSeal, HasLength, HoldsKeys, IsS
 /// record is of a kind that there is, under keys that are present after the step.
 pub fn commands_can_be_sealed()
     ensures { (m : Journal) → IsValid m → (request : Request) (drawn : List (List ℕ)) (file_bytes : ℕ)
-        → refusal_of (store_of m) request file_bytes ≡ None
+        → refusal_in (is_strict (keys_of m)) (store_of m) request file_bytes ≡ None
         → IsSealable (entry_step (stand_after nothing m) (Did request drawn)) }
 {}
 

@@ -9,7 +9,7 @@ use Rattle.std.proofs.Math.ListN.{length-set}
 use Rattle.cry_base.specs.Naming.{parent_path, names_of, last_name}
 use Rattle.cry_base.specs.Sets.{In}
 use Rattle.cry_base.specs.Requests.Request.{WriteFile, Relocate, Grant, Revoke}
-use Rattle.cry_base.specs.Refusing.{id_of}
+use Rattle.cry_base.specs.Refusing.{granted_id, id_of}
 use Rattle.cry_base.specs.Stepping.{with_new_file, with_file, with_bytes_at, moved, without_grant, effect}
 use Rattle.cry_base.specs.Store.{Store, FileEntry, GrantEntry, folder_node, file_node, has_grant, holder_entry, node_at}
 use Rattle.cry_base.specs.declared.roles.Node.{Node}
@@ -178,7 +178,7 @@ module _ (g : Generator) (s : Store) (stands : Stands g s) where
       same_file e (inr v) = inr v
 
   pub grant_stands : (who m : ℕ) (key : List ℕ) → who < 4 → m < 8 → Stands (with_grant g who m true) (effect s (Grant (who + 1) (folder_path m)) key)
-  unfolding effect has_grant folder_node id_of
+  unfolding effect has_grant folder_node granted_id
   grant_stands who m key w l =
       let new : GrantEntry = record { holder = who + 1; folder = m + 2 } in
       let after : Stands (with_grant g who m true) (record s { grants = s.grants ++ new ∷ [] }) =
@@ -190,10 +190,10 @@ module _ (g : Generator) (s : Store) (stands : Stands g s) where
       ∙ or_false (has_grant s (other + 1) (n + 2)) _ (or_from _ _ (false_from_ne_true _ (λ t.
       let parts = and_parts (who + 1 == other + 1) (m + 2 == n + 2) t in
       differs (sym (eqb-true (who + 1) (other + 1) parts.0)) (sym (eqb-true (m + 2) (n + 2) parts.1)))) refl)) in
-      subst (λ (o : Option Node). Stands (with_grant g who m true) (record s { grants = s.grants ++ record { holder = who + 1; folder = id_of o } ∷ [] })) (sym (folder_found s stands.folders m l)) after
+      subst (λ (o : Option Node). Stands (with_grant g who m true) (record s { grants = s.grants ++ record { holder = who + 1; folder = granted_id o } ∷ [] })) (sym (folder_found s stands.folders m l)) after
 
   pub revoke_stands : (who m : ℕ) (key : List ℕ) → who < 4 → m < 8 → Stands (with_grant g who m false) (effect s (Revoke (who + 1) (folder_path m)) key)
-  unfolding effect without_grant has_grant folder_node id_of
+  unfolding effect without_grant has_grant folder_node granted_id
   revoke_stands who m key w l =
       let gone : GrantEntry → Bool = λ e. e.holder == who + 1 && e.folder == m + 2 in
       let rest : List GrantEntry = filter (λ e. not (gone e)) s.grants in
@@ -208,4 +208,4 @@ module _ (g : Generator) (s : Store) (stands : Stands g s) where
       not_from_false (gone e) (false_from_ne_true (gone e) (λ u.
       let both = and_parts (e.holder == who + 1) (e.folder == m + 2) u in
       differs (sym h ∙ eqb-true e.holder (who + 1) both.0) (sym f ∙ eqb-true e.folder (m + 2) both.1)))) s.grants) in
-      subst (λ (o : Option Node). Stands (with_grant g who m false) (without_grant s (who + 1) (id_of o))) (sym (folder_found s stands.folders m l)) after
+      subst (λ (o : Option Node). Stands (with_grant g who m false) (without_grant s (who + 1) (granted_id o))) (sym (folder_found s stands.folders m l)) after

@@ -8,7 +8,7 @@ use Rattle.cry_base.proofs.Members.{In-any}
 use Rattle.cry_base.specs.Naming.{is_root_path, parent_path}
 use Rattle.cry_base.specs.Requests.{Request, paths_of}
 use Rattle.cry_base.specs.Requests.Request.{WriteFile, Relocate, Grant, Revoke}
-use Rattle.cry_base.specs.Refusing.{is_folder, is_file, id_of, has_bad_name, has_no_place, finds_no_path, changes_root, needs_folder, writes_folder, holds_name, name_of, finds_name_taken, removes_children, moves_into_itself, height_of, depth_at, goes_too_deep, finds_no_holder, grants_again, revokes_nothing, is_too_long, causes, refusal_of}
+use Rattle.cry_base.specs.Refusing.{is_folder, is_file, granted_id, id_of, has_bad_name, has_no_place, finds_no_path, changes_root, needs_folder, writes_folder, holds_name, name_of, finds_name_taken, removes_children, moves_into_itself, height_of, depth_at, goes_too_deep, finds_no_holder, grants_again, revokes_nothing, is_too_long, causes, refusal_of}
 use Rattle.cry_base.specs.Store.{Store, FileEntry, FolderEntry, folder_node, file_node, file_entry, has_grant, depth_of, node_at}
 use Rattle.cry_base.specs.declared.roles.Node.{Node}
 use Rattle.store_gen.specs.Rule.{folder_path, written_path, moved_path, home_of, has_granted}
@@ -147,7 +147,7 @@ module _ (g : Generator) (s : Store) (stands : Stands g s) (file_bytes : ℕ) (o
 
   -- a grant that doesn't stand is given
   pub grant_accepted : (who m : ℕ) → who < 4 → m < 8 → has_granted g who m ≡ false → refusal_of s (Grant (who + 1) (folder_path m)) file_bytes ≡ None
-  unfolding has_bad_name paths_of finds_no_path changes_root needs_folder is_file writes_folder finds_name_taken removes_children moves_into_itself goes_too_deep finds_no_holder grants_again revokes_nothing is_too_long folder_node id_of
+  unfolding has_bad_name paths_of finds_no_path changes_root needs_folder is_file writes_folder finds_name_taken removes_children moves_into_itself goes_too_deep finds_no_holder grants_again revokes_nothing is_too_long folder_node granted_id
   grant_accepted who m w h none =
       let path = folder_is_path m h in
       let at = folder_found s stands.folders m h in
@@ -156,7 +156,7 @@ module _ (g : Generator) (s : Store) (stands : Stands g s) (file_bytes : ℕ) (o
         bad_name = rw path refl;
         no_path = rw at refl;
         is_root = refl;
-        not_folder = rw at refl;
+        not_folder = refl;
         folder = refl;
         exists = refl;
         not_empty = refl;
@@ -170,7 +170,7 @@ module _ (g : Generator) (s : Store) (stands : Stands g s) (file_bytes : ℕ) (o
 
   -- and one that stands is taken back
   pub revoke_accepted : (who m : ℕ) → who < 4 → m < 8 → has_granted g who m ≡ true → refusal_of s (Revoke (who + 1) (folder_path m)) file_bytes ≡ None
-  unfolding has_bad_name paths_of finds_no_path changes_root needs_folder is_file writes_folder finds_name_taken removes_children moves_into_itself goes_too_deep finds_no_holder grants_again revokes_nothing is_too_long folder_node id_of
+  unfolding has_bad_name paths_of finds_no_path changes_root needs_folder is_file writes_folder finds_name_taken removes_children moves_into_itself goes_too_deep finds_no_holder grants_again revokes_nothing is_too_long folder_node granted_id
   revoke_accepted who m w h some =
       let path = folder_is_path m h in
       let at = folder_found s stands.folders m h in
@@ -179,7 +179,7 @@ module _ (g : Generator) (s : Store) (stands : Stands g s) (file_bytes : ℕ) (o
         bad_name = rw path refl;
         no_path = rw at refl;
         is_root = refl;
-        not_folder = rw at refl;
+        not_folder = refl;
         folder = refl;
         exists = refl;
         not_empty = refl;

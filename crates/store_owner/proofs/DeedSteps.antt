@@ -5,6 +5,7 @@ use Rattle.chacha_seal.specs.Sealing.{check_of}
 use Rattle.commit_journal.specs.Placed.{Commands}
 use Rattle.cry_base.specs.Limits.{most_file_bytes, most_store_bytes}
 use Rattle.cry_base.specs.Store.{Store}
+use Rattle.cry_base.proofs.Versions.{accepted_in}
 use Rattle.folder_nodes.specs.Titles.{Titles, tree_store}
 use Rattle.public_fold.proofs.Treeing.{IsTree}
 use Rattle.log_visits.proofs.ToldLemmas.{accepted_told}
@@ -12,7 +13,7 @@ use Rattle.move_plan.specs.Fitting.{public_of}
 use Rattle.public_fold.specs.Changing.{tree_then}
 use Rattle.public_fold.specs.Fitted.{told_step}
 use Rattle.public_fold.specs.Journal.{Journal, Stand, entry_step, entry_store, first_key, keys_of, note_step, nothing, stand_after, store_of}
-use Rattle.public_fold.specs.KeyStep.{Stepped}
+use Rattle.public_fold.specs.KeyStep.{Stepped, is_strict}
 use Rattle.public_fold.specs.Preparing.{begun}
 use Rattle.public_fold.specs.Told.{told_store}
 use Rattle.public_fold.specs.Valid.{IsValid}
@@ -42,7 +43,7 @@ unfolding upgrade_end
 deed_begun m has (Commanded r) valid low = session_valid m has r valid low
 deed_begun m has Upgrading valid low = begun_valid m has (upgrade_payload m) valid low
 
-pub deed_valid : (m : Journal) (has : Bool) (d : Deed) (drawn : List (List ℕ)) (file_bytes : ℕ) → IsValid m → file_bytes ≤ most_file_bytes → deed_refusal (store_of m) d file_bytes ≡ None → Suits (keys_of m) d
+pub deed_valid : (m : Journal) (has : Bool) (d : Deed) (drawn : List (List ℕ)) (file_bytes : ℕ) → IsValid m → file_bytes ≤ most_file_bytes → deed_refusal (is_strict (keys_of m)) (store_of m) d file_bytes ≡ None → Suits (keys_of m) d
     → length drawn ≡ deed_draws m d → All (λ (key : List ℕ). length key ≡ 32) drawn → deed_end m has d ≤ most_store_bytes → IsValid (deed_then m has d drawn)
 deed_valid m has (Commanded r) drawn file_bytes valid bound none suits many sizes low = next_valid m has r drawn file_bytes valid bound none many sizes low
 deed_valid m has Upgrading drawn file_bytes valid bound none suits many sizes low = upgraded_valid m has drawn valid suits many low
@@ -75,22 +76,22 @@ unfolding entry_body
 deed_body keys at (Commanded r) drawn = refl
 deed_body keys at Upgrading drawn = refl
 
-pub deed_sealable : (m : Journal) → IsValid m → (d : Deed) (drawn : List (List ℕ)) (file_bytes : ℕ) → deed_refusal (stand_after nothing m).store d file_bytes ≡ None
+pub deed_sealable : (m : Journal) → IsValid m → (d : Deed) (drawn : List (List ℕ)) (file_bytes : ℕ) → deed_refusal (is_strict (stand_after nothing m).keys) (stand_after nothing m).store d file_bytes ≡ None
     → IsSealable (entry_step (stand_after nothing m) (deed_entry d drawn))
-unfolding store_of
+unfolding store_of keys_of
 deed_sealable m valid (Commanded r) drawn file_bytes none = command_sealable m valid r drawn file_bytes none
 deed_sealable m valid Upgrading drawn file_bytes none = upgrade_sealable m valid drawn
 
-pub deed_told : (s : Store) (d : Deed) (drawn : List (List ℕ)) (check : List ℕ) (file_bytes : ℕ) → deed_refusal s d file_bytes ≡ None
+pub deed_told : (strict : Bool) (s : Store) (d : Deed) (drawn : List (List ℕ)) (check : List ℕ) (file_bytes : ℕ) → deed_refusal strict s d file_bytes ≡ None
     → public_of (entry_store s (deed_entry d drawn)) ≡ told_store (public_of s) (deed_note s d check)
 unfolding entry_store
-deed_told s (Commanded r) drawn check file_bytes none = accepted_told s r (first_key drawn) check file_bytes none
-deed_told s Upgrading drawn check file_bytes none = unfold told_store in refl
+deed_told strict s (Commanded r) drawn check file_bytes none = accepted_told s r (first_key drawn) check file_bytes (accepted_in strict s r file_bytes none)
+deed_told strict s Upgrading drawn check file_bytes none = unfold told_store in refl
 
-pub deed_told_keys : (at : Stand) (d : Deed) (check : List ℕ) (drawn : List (List ℕ)) (file_bytes : ℕ) → deed_refusal at.store d file_bytes ≡ None
+pub deed_told_keys : (strict : Bool) (at : Stand) (d : Deed) (check : List ℕ) (drawn : List (List ℕ)) (file_bytes : ℕ) → deed_refusal strict at.store d file_bytes ≡ None
     → (told_step (record { store = public_of at.store; keys = at.keys }) (deed_note at.store d check)).after ≡ (entry_step at (deed_entry d drawn)).after
-deed_told_keys at (Commanded r) check drawn file_bytes none = told_keys at r check drawn file_bytes none
-deed_told_keys at Upgrading check drawn file_bytes none = ap (λ (s : Stepped). s.after) (told_whole at drawn)
+deed_told_keys strict at (Commanded r) check drawn file_bytes none = told_keys at r check drawn file_bytes (accepted_in strict at.store r file_bytes none)
+deed_told_keys strict at Upgrading check drawn file_bytes none = ap (λ (s : Stepped). s.after) (told_whole at drawn)
 
 -- ---- its text, and the names after it
 
@@ -98,8 +99,8 @@ pub deed_same : (t s : Store) (d : Deed) → IsTreeOf t s → deed_text t d ≡ 
 deed_same t s (Commanded r) of = due_same t s r of
 deed_same t s Upgrading of = refl
 
-pub deed_tree : (t s : Store) (old new : Titles) → AreBelow t → IsTreeOf (tree_store t old) s → (d : Deed) (drawn : List (List ℕ)) (check : List ℕ) (file_bytes : ℕ) → deed_refusal s d file_bytes ≡ None
+pub deed_tree : (t s : Store) (old new : Titles) → AreBelow t → IsTreeOf (tree_store t old) s → (strict : Bool) (d : Deed) (drawn : List (List ℕ)) (check : List ℕ) (file_bytes : ℕ) → deed_refusal strict s d file_bytes ≡ None
     → IsTree s.folders s.files → AreDeedTitles s d old new → IsTreeOf (tree_store (tree_then t (deed_note s d check)) new) (entry_store s (deed_entry d drawn))
 unfolding entry_store
-deed_tree t s old new below is (Commanded r) drawn check file_bytes none tree titles = joined t s old new below is r (first_key drawn) check (accepted s r file_bytes none) tree titles
-deed_tree t s old new below is Upgrading drawn check file_bytes none tree titles = unfold tree_then in kept t s old new titles is
+deed_tree t s old new below is strict (Commanded r) drawn check file_bytes none tree titles = joined t s old new below is r (first_key drawn) check (accepted s r file_bytes (accepted_in strict s r file_bytes none)) tree titles
+deed_tree t s old new below is strict Upgrading drawn check file_bytes none tree titles = unfold tree_then in kept t s old new titles is

@@ -38,6 +38,7 @@ use Rattle.public_fold.specs.KeyStep.{KeyState}
 use Rattle.public_fold.specs.Lengths.{end_of}
 use Rattle.public_fold.specs.Standing.{IsSeenAs, public_store_of}
 use Rattle.public_fold.specs.Valid.{IsValid}
+use Rattle.public_fold.proofs.KeyMoves.{journal_sound}
 use Rattle.journal_bytes.specs.Bytes.{batches_of, bodies_of, image_of}
 use Rattle.journal_bytes.specs.Folds.{fold_of, log_of, public_stand}
 use Rattle.journal_bytes.specs.Journals.{IsSettled, StandsForJournal}
@@ -46,7 +47,6 @@ use Rattle.journal_bytes.specs.Opening.{owner_starts, owner_visits, reading_of}
 use Rattle.journal_bytes.proofs.Followed.{journal_followed}
 use Rattle.journal_bytes.proofs.NeverFails.{journal_opened}
 use Rattle.journal_bytes.proofs.OpenedKeys.{same_ok}
-use Rattle.journal_bytes.proofs.Sealable.{begun_sound}
 use Rattle.journal_bytes.proofs.Spelled.{journal_spelled}
 use Rattle.journal_bytes.proofs.Weighed.{valid_weighs}
 use Rattle.store_owner.specs.Opened.{AreContents, IsFresh, IsKept, IsOpenFault, Keeps, OpensAs, opened_of, placed_in, reading_with, starts_with, visits_of}
@@ -206,7 +206,7 @@ root_stands : (m : Journal) → IsValid m → folder_stands (public_stand m).sto
 unfolding public_stand public_of folder_stands folder_entry store_of
 root_stands m valid =
     let s = store_of m in
-    let root = (begun_sound m valid.0).tree.root_stands in
+    let root = (journal_sound m valid).tree.root_stands in
     let bare : FolderEntry = record root.0 { name = [] } in
     some_stands FolderEntry (λ x. x.id == 1) (map (λ (e : FolderEntry). record e { name = [] }) s.folders) bare
     ((In-map FolderEntry FolderEntry (λ e. record e { name = [] }) bare s.folders).1 (root.0, root.1, refl)) (eq-eqb root.0.id 1 root.2)

@@ -16,7 +16,7 @@ use Rattle.log_visits.specs.Folding.{folded}
 use Rattle.log_visits.specs.Judging.{Failure, OfBytes, of_bytes, read_through, then_on}
 use Rattle.log_visits.specs.Opening.{IsOpenedBy}
 use Rattle.log_visits.specs.Visiting.{Opened, Reading, visit_all}
-use Rattle.log_visits.specs.Visits.{all_visits, holder_visits}
+use Rattle.log_visits.specs.Visits.{all_visits, writing_visits}
 use Rattle.log_visits.specs.declared.fault.ClientFault.{ClientFault}
 use Rattle.log_visits.proofs.Viewed.{fault_first}
 use Rattle.move_plan.specs.Fitting.{folder_stands}
@@ -118,7 +118,7 @@ by_visits r (Err fault) = refl
 abbrev by_root : List ℕ → Result Reading Failure → Result OpenStore Failure
 by_root owner r =
     then_on r (λ r.
-    then_on (of_bytes (visit_all r (all_visits r.stand.store TheOwner ++ holder_visits r.stand.store) (record { keys = (Owner, owner) ∷ []; store = r.stand.store }))) (λ o.
+    then_on (of_bytes (visit_all r (all_visits r.stand.store TheOwner ++ writing_visits r.stand.store) (record { keys = (Owner, owner) ∷ []; store = r.stand.store }))) (λ o.
     Ok (record { reading = r; opened = o })))
 
 root_or : (owner : List ℕ) (log : List PlainPlaced) (at : Stand) (b : Bool) → folder_stands at.store 1 ≡ b

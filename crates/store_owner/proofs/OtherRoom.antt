@@ -14,7 +14,7 @@ use Rattle.grant_book.specs.Granted.{Granted}
 use Rattle.key_links.specs.Ringed.{Ringed, key_of}
 use Rattle.key_links.specs.declared.any_key.AnyKey.{AnyKey}
 use Rattle.public_fold.specs.Journal.{Journal, Stand, keys_of}
-use Rattle.public_fold.specs.KeyStep.{KeyState}
+use Rattle.public_fold.specs.KeyStep.{KeyState, is_strict}
 use Rattle.public_fold.specs.Standing.{IsSeenAs, PublicView, with_room_of}
 use Rattle.journal_bytes.specs.Keys.{all_keys}
 use Rattle.journal_bytes.specs.Owning.{IsStoreOf}
@@ -238,9 +238,9 @@ interrupted_from r drawn old between was shows h c = interrupted_before r drawn 
 pub carried_from : (r : Deed) (drawn : List (List ℕ)) (old between new : OwnerView) (was shows : Option (List ℕ)) → HasOtherRoom old between → IsCarriedOut r drawn between new was shows → IsCarriedOut r drawn old new was shows
 carried_from r drawn old between new was shows h c = carried_before r drawn old new was shows _ _ _ _ _ (subst (λ (o : OwnerView). IsCarriedOut r drawn o new was shows) (has_room old between h) c)
 
-pub accepted_still : (r : Deed) (old new : OwnerView) → HasOtherRoom old new → deed_refusal (own_store old) r old.file_bytes ≡ None → deed_refusal (own_store new) r new.file_bytes ≡ None
+pub accepted_still : (r : Deed) (old new : OwnerView) → HasOtherRoom old new → deed_refusal (is_strict old.state.keys) (own_store old) r old.file_bytes ≡ None → deed_refusal (is_strict new.state.keys) (own_store new) r new.file_bytes ≡ None
 unfolding tree_store
-accepted_still r old new h accepted = subst (λ (o : OwnerView). deed_refusal (own_store o) r o.file_bytes ≡ None) (sym (has_room old new h)) accepted
+accepted_still r old new h accepted = subst (λ (o : OwnerView). deed_refusal (is_strict o.state.keys) (own_store o) r o.file_bytes ≡ None) (sym (has_room old new h)) accepted
 
 owner_with : (o : OwnerView) (b c d e f : ℕ) (m : Journal) → IsOwnerOf m o → IsOwnerOf m (with_room o b c d e f)
 unfolding tree_store

@@ -29,7 +29,7 @@ use Rattle.public_fold.specs.Fitted.{told_stand, told_step}
 use Rattle.public_fold.specs.Heads.{IsSkeleton}
 use Rattle.public_fold.specs.Journal.{Journal, Stand, nothing, entry_step, entry_store, first_key, keys_of, note_step, stand_then, stand_after, store_of}
 use Rattle.public_fold.specs.Journal.Entry.{Session, Did}
-use Rattle.public_fold.specs.KeyStep.{KeyState, Stepped, given, key_step, keys_then, next_epoch, next_serial, published, published_edges, renewed, step_with}
+use Rattle.public_fold.specs.KeyStep.{KeyState, Stepped, given, is_strict, key_step, keys_then, next_epoch, next_serial, published, published_edges, renewed, step_with}
 use Rattle.public_fold.specs.Preparing.{begun, begun_keys}
 use Rattle.public_fold.specs.Records.{Content, Piece, pieces_of, text_of}
 use Rattle.public_fold.specs.Standing.{IsSeenAs, PublicView}
@@ -37,6 +37,7 @@ use Rattle.public_fold.specs.Told.{told_store}
 use Rattle.public_fold.specs.Valid.{IsValid}
 use Rattle.public_fold.proofs.Accepting.{accepted}
 use Rattle.public_fold.proofs.Counting.{journal_counted}
+use Rattle.public_fold.proofs.HeldMarks.{begun_strict}
 use Rattle.public_fold.proofs.Keeping.{journal_tree}
 use Rattle.public_fold.proofs.Prefixes.{stand_after-append}
 use Rattle.public_fold.proofs.SerialsKept.{journal_count}
@@ -57,7 +58,8 @@ use Rattle.journal_bytes.proofs.Sealable.{content_from}
 use Rattle.journal_bytes.proofs.TitlesAfter.{titled_tree, told_tree, tree_back, tree_on}
 use Rattle.cry_base.specs.Requests.{Request}
 use Rattle.move_plan.specs.Noting.{note_of}
-use Rattle.cry_base.specs.Refusing.{refusal_of}
+use Rattle.cry_base.specs.Refusing.{refusal_in}
+use Rattle.cry_base.proofs.Versions.{accepted_in}
 use Rattle.journal_bytes.specs.Texting.{due_key, due_text}
 use Rattle.journal_bytes.specs.Upgrading.{upgrade_answer, upgrade_end}
 use Rattle.journal_bytes.proofs.NextUpgrade.{no_contents}
@@ -78,10 +80,10 @@ answered None true = λ e. absurd cc
 answered None false = λ e. (refl, refl)
 
 pub not_refused : (m : Journal) (r : Deed) (o : OwnerView) → deed_answer (limits_in o) m o.journal.has_epoch r ≡ None
-    → (deed_refusal (store_of m) r o.file_bytes ≡ None) × (deed_end m o.journal.has_epoch r ≤ o.journal.limit)
-unfolding answer upgrade_answer store_of
+    → (deed_refusal (is_strict (keys_of m)) (store_of m) r o.file_bytes ≡ None) × (deed_end m o.journal.has_epoch r ≤ o.journal.limit)
+unfolding answer upgrade_answer store_of keys_of
 not_refused m (Commanded r) o fine =
-    let both = answered (refusal_of (stand_after nothing m).store r o.file_bytes) (nat_lt o.journal.limit (due_end m o.journal.has_epoch r)) fine in
+    let both = answered (refusal_in (is_strict (stand_after nothing m).keys) (stand_after nothing m).store r o.file_bytes) (nat_lt o.journal.limit (due_end m o.journal.has_epoch r)) fine in
     (both.0, ltb-false o.journal.limit (due_end m o.journal.has_epoch r) both.1)
 not_refused m Upgrading o fine =
     let both = answered None (nat_lt o.journal.limit (upgrade_end m o.journal.has_epoch)) fine in (refl, ltb-false o.journal.limit (upgrade_end m o.journal.has_epoch) both.1)
@@ -199,7 +201,7 @@ module _ (m : Journal) (r : Deed) (drawn : List (List ℕ)) (old : OwnerView) (w
   abbrev at : Stand
   at = begun (not old.journal.has_epoch) (stand_after nothing m)
 
-  accepted_is : deed_refusal (store_of m) r old.file_bytes ≡ None
+  accepted_is : deed_refusal (is_strict (keys_of m)) (store_of m) r old.file_bytes ≡ None
   accepted_is = (not_refused m r old fine).0
 
   ends_low : deed_end m old.journal.has_epoch r ≤ most_store_bytes
@@ -221,13 +223,13 @@ module _ (m : Journal) (r : Deed) (drawn : List (List ℕ)) (old : OwnerView) (w
   sealable =
       subst (λ a. IsSealable (entry_step a (deed_entry r drawn))) (stand_between m old.journal.has_epoch)
       (deed_sealable (between m old.journal.has_epoch) (deed_begun m old.journal.has_epoch r is.valid ends_low) r drawn old.file_bytes
-      (subst (λ (a : Stand). deed_refusal a.store r old.file_bytes ≡ None) (sym (stand_between m old.journal.has_epoch)) (unfold store_of in accepted_is)))
+      (subst (λ (a : Stand). deed_refusal (is_strict a.keys) a.store r old.file_bytes ≡ None) (sym (stand_between m old.journal.has_epoch)) (subst (λ (b : Bool). deed_refusal b (stand_after nothing m).store r old.file_bytes ≡ None) (sym (begun_strict (not old.journal.has_epoch) (stand_after nothing m).keys)) (unfold store_of keys_of in accepted_is))))
 
   command_sealed : (request : Request) → r ≡ Commanded request → (c : Content) → In c (entry_step at (Did request drawn)).contents → text_of c.piece ≡ due_text (store_of m) request ++ due_key request (first_key drawn)
   unfolding entry_step note_step store_of
   command_sealed request one c i =
-      let fine : refusal_of (store_of m) request old.file_bytes ≡ None = subst (λ (d : Deed). deed_refusal (store_of m) d old.file_bytes ≡ None) one accepted_is in
-      sealed (store_of m) request (first_key drawn) [] (accepted (store_of m) request old.file_bytes fine) (journal_counted m) (journal_tree m is.valid) c.piece
+      let fine : refusal_in (is_strict (keys_of m)) (store_of m) request old.file_bytes ≡ None = subst (λ (d : Deed). deed_refusal (is_strict (keys_of m)) (store_of m) d old.file_bytes ≡ None) one accepted_is in
+      sealed (store_of m) request (first_key drawn) [] (accepted (store_of m) request old.file_bytes (accepted_in (is_strict (keys_of m)) (store_of m) request old.file_bytes fine)) (journal_counted m) (journal_tree m is.valid) c.piece
       (content_piece at.keys _ _ (pieces_of (note_of (store_of m) request []) (effect (store_of m) request (first_key drawn))) c i)
 
   deed_sealed : (d : Deed) → r ≡ d → (c : Content) → In c (entry_step at (deed_entry d drawn)).contents → text_of c.piece ≡ deed_text (store_of m) d ++ deed_key d (first_key drawn)
@@ -315,8 +317,8 @@ module _ (m : Journal) (r : Deed) (drawn : List (List ℕ)) (old new : OwnerView
   public_is =
       ap (λ (a : Stand). record { store = public_of a.store; keys = a.keys }) stand_is
       ∙ (λ i. record {
-        store = deed_told (store_of m) r drawn (replicate 32 0) old.file_bytes (accepted_is m r drawn old was is low bound fine suits out.sealed) i;
-        keys = sym (deed_told_keys (at m r drawn old was is low bound fine suits out.sealed) r (replicate 32 0) drawn old.file_bytes (accepted_is m r drawn old was is low bound fine suits out.sealed)) i;
+        store = deed_told (is_strict (keys_of m)) (store_of m) r drawn (replicate 32 0) old.file_bytes (accepted_is m r drawn old was is low bound fine suits out.sealed) i;
+        keys = sym (deed_told_keys (is_strict (keys_of m)) (at m r drawn old was is low bound fine suits out.sealed) r (replicate 32 0) drawn old.file_bytes (accepted_is m r drawn old was is low bound fine suits out.sealed)) i;
       })
 
   seen_then : IsSeenAs new.state (public_stand (deed_then m old.journal.has_epoch r drawn))
@@ -333,7 +335,7 @@ module _ (m : Journal) (r : Deed) (drawn : List (List ℕ)) (old new : OwnerView
       tree_on new.state.tree (told_store (public_of s) note) (tree_then old.state.tree note) (tree_back (told_store (public_of s) note) new.state.tree after)
       (told_tree (public_of s) old.state.tree note before)
       in
-      let whole = deed_tree old.state.tree s old.names new.names (seen_below m old.state.tree before) is.tree r drawn (replicate 32 0) old.file_bytes (accepted_is m r drawn old was is low bound fine suits out.sealed)
+      let whole = deed_tree old.state.tree s old.names new.names (seen_below m old.state.tree before) is.tree (is_strict (keys_of m)) r drawn (replicate 32 0) old.file_bytes (accepted_is m r drawn old was is low bound fine suits out.sealed)
       (journal_tree m is.valid) (out.titles_then s is.tree)
       in
       subst (IsTreeOf (tree_store new.state.tree new.names)) (sym (ap (λ (a : Stand). a.store) stand_is))

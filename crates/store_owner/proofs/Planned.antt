@@ -10,14 +10,15 @@ use Rattle.folder_nodes.specs.Titles.{tree_store}
 use Rattle.record_format.specs.Noted.{Note}
 use Rattle.public_fold.specs.Fitted.{told_step}
 use Rattle.public_fold.specs.Heads.{IsSkeleton}
-use Rattle.public_fold.specs.Journal.{Journal, store_of}
+use Rattle.public_fold.specs.Journal.{Journal, keys_of, store_of}
+use Rattle.public_fold.specs.KeyStep.{is_strict}
 use Rattle.public_fold.specs.Preparing.{begun}
 use Rattle.journal_bytes.specs.Folds.{public_stand}
 use Rattle.journal_bytes.specs.Owning.{IsStoreOf}
 use Rattle.journal_bytes.specs.Script.{answer, answer_with, due_end}
 use Rattle.journal_bytes.specs.Upgrading.{upgrade_answer}
 use Rattle.cry_base.specs.Requests.{Request}
-use Rattle.cry_base.specs.Refusing.{refusal_of}
+use Rattle.cry_base.specs.Refusing.{refusal_in}
 use Rattle.store_owner.specs.Deeds.{Deed, deed_answer, deed_end, deed_key, deed_note, deed_payload, deed_refusal, deed_text}
 use Rattle.store_owner.specs.Deeds.Deed.{Commanded, Upgrading}
 use Rattle.journal_bytes.specs.Sealing.{skeleton_size}
@@ -27,21 +28,21 @@ use Rattle.store_owner.specs.Sound.{granted_in}
 use Rattle.store_owner.specs.declared.change.Change.{Change}
 
 -- what the store itself doesn't refuse, but for a full store
-pub answered : (o : OwnerView) (m : Journal) (r : Deed) (full : Bool) → deed_refusal (store_of m) r o.file_bytes ≡ None → nat_lt o.journal.limit (deed_end m o.journal.has_epoch r) ≡ full
+pub answered : (o : OwnerView) (m : Journal) (r : Deed) (full : Bool) → deed_refusal (is_strict (keys_of m)) (store_of m) r o.file_bytes ≡ None → nat_lt o.journal.limit (deed_end m o.journal.has_epoch r) ≡ full
     → deed_answer (limits_in o) m o.journal.has_epoch r ≡ answer_with None full
-unfolding answer upgrade_answer store_of
+unfolding answer upgrade_answer store_of keys_of
 answered o m (Commanded r) full accepted at = ap (λ w. answer_with w (nat_lt o.journal.limit (due_end m o.journal.has_epoch r))) accepted ∙ ap (answer_with None) at
 answered o m Upgrading full accepted at = ap (answer_with None) at
 
-pub is_refused : (o : OwnerView) (m : Journal) (r : Request) (why : Refusal) → refusal_of (store_of m) r o.file_bytes ≡ Some why → answer (limits_in o) m o.journal.has_epoch r ≡ Some why
-unfolding answer answer_with store_of
+pub is_refused : (o : OwnerView) (m : Journal) (r : Request) (why : Refusal) → refusal_in (is_strict (keys_of m)) (store_of m) r o.file_bytes ≡ Some why → answer (limits_in o) m o.journal.has_epoch r ≡ Some why
+unfolding answer answer_with store_of keys_of
 is_refused o m r why refused = ap (λ w. answer_with w (nat_lt o.journal.limit (due_end m o.journal.has_epoch r))) refused
 
-pub is_full : (o : OwnerView) (m : Journal) (r : Deed) → deed_refusal (store_of m) r o.file_bytes ≡ None → o.journal.limit < deed_end m o.journal.has_epoch r → deed_answer (limits_in o) m o.journal.has_epoch r ≡ Some Full
+pub is_full : (o : OwnerView) (m : Journal) (r : Deed) → deed_refusal (is_strict (keys_of m)) (store_of m) r o.file_bytes ≡ None → o.journal.limit < deed_end m o.journal.has_epoch r → deed_answer (limits_in o) m o.journal.has_epoch r ≡ Some Full
 unfolding answer_with
 is_full o m r accepted past = answered o m r true accepted (lt-ltb o.journal.limit (deed_end m o.journal.has_epoch r) past)
 
-pub is_accepted : (o : OwnerView) (m : Journal) (r : Deed) → deed_refusal (store_of m) r o.file_bytes ≡ None → deed_end m o.journal.has_epoch r ≤ o.journal.limit → deed_answer (limits_in o) m o.journal.has_epoch r ≡ None
+pub is_accepted : (o : OwnerView) (m : Journal) (r : Deed) → deed_refusal (is_strict (keys_of m)) (store_of m) r o.file_bytes ≡ None → deed_end m o.journal.has_epoch r ≤ o.journal.limit → deed_answer (limits_in o) m o.journal.has_epoch r ≡ None
 unfolding answer_with
 is_accepted o m r accepted within = answered o m r false accepted (le-ltb o.journal.limit (deed_end m o.journal.has_epoch r) within)
 

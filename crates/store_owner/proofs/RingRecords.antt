@@ -10,7 +10,7 @@ use Rattle.chacha_seal.proofs.SealingLemmas.{length-sealed}
 use Rattle.cry_base.specs.Sets.{In}
 use Rattle.cry_base.specs.declared.roles.Edge.{Edge}
 use Rattle.cry_base.specs.declared.roles.Role.{Role}
-use Rattle.kind_table.specs.declared.nine.TheConstants.{NINE}
+use Rattle.kind_table.specs.declared.eleven.TheConstants.{ELEVEN}
 use Rattle.kind_table.specs.declared.table.Row.{Row}
 use Rattle.key_links.specs.Ringed.{Ringed, key_of}
 use Rattle.key_links.specs.Sealed.{sealed_content, sealed_link}
@@ -35,18 +35,18 @@ In-list_all X test (y ∷ ys) x all here =
     let both = and_parts (test y) (list_all test ys) all in
     ⊎_elim (λ (e : x ≡ y). subst (λ z. test z ≡ true) (sym e) both.0) (λ others. In-list_all X test ys x both.1 others) here
 
-row_range : (r : Row) → In r NINE.rows → (1 ≤ r.number) × (r.number ≤ 9)
+row_range : (r : Row) → In r ELEVEN.rows → (1 ≤ r.number) × (r.number ≤ 11)
 row_range r i =
-    let both = and_parts (nat_le 1 r.number) (nat_le r.number 9) (In-list_all Row (λ q. nat_le 1 q.number && nat_le q.number 9) NINE.rows r refl i) in
+    let both = and_parts (nat_le 1 r.number) (nat_le r.number 11) (In-list_all Row (λ q. nat_le 1 q.number && nat_le q.number 11) ELEVEN.rows r refl i) in
     let low = both.0 in let high = both.1 in (grind (arith, nat_tests), grind (arith, nat_tests))
 
 -- a sealed link has the kind of its edge
-pub link_range : (e : Edge) (r : LinkRecord) (from to : KeyParts) (serial : ℕ) → In (row_of e) NINE.rows → r ≡ sealed_link e.kind from to serial → (1 ≤ r.kind) × (r.kind ≤ 9)
+pub link_range : (e : Edge) (r : LinkRecord) (from to : KeyParts) (serial : ℕ) → In (row_of e) ELEVEN.rows → r ≡ sealed_link e.kind from to serial → (1 ≤ r.kind) × (r.kind ≤ 11)
 unfolding row_of sealed_link
 link_range e r from to serial i is =
     let range = row_range (row_of e) i in
     let kind : r.kind ≡ e.kind = ap (λ (x : LinkRecord). x.kind) is in
-    let low : 1 ≤ e.kind = range.0 in let high : e.kind ≤ 9 = range.1 in (omega arith, omega arith)
+    let low : 1 ≤ e.kind = range.0 in let high : e.kind ≤ 11 = range.1 in (omega arith, omega arith)
 
 -- a sealed text has its kind and its length
 pub text_range : (r : ContentRecord) (kind object serial : ℕ) (key : KeyParts) (text : List ℕ) → plain_content r ≡ sealed_content kind key object serial text → (r.kind ≡ kind) × (length r.cipher.items ≡ length text)

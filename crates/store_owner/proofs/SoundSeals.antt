@@ -5,6 +5,7 @@ use Rattle.std.proofs.lemmas.List.Elements.{All-head}
 use Rattle.chacha_seal.specs.Keys.{KeyParts}
 use Rattle.chacha_seal.specs.Serials.{Counting}
 use Rattle.cry_base.specs.Limits.{most_file_bytes}
+use Rattle.cry_base.proofs.Versions.{accepted_in}
 use Rattle.cry_base.specs.Refusing.{has_bad_name, refusal_of}
 use Rattle.cry_base.specs.Requests.{Request}
 use Rattle.cry_base.specs.Requests.Request.{AddHolder, MakeFolder, WriteFile, Remove, Rename, Relocate, Grant, Revoke}
@@ -118,12 +119,12 @@ unfolding told_step note_step key_step step_with published pieces_of contents_fr
 seals_nothing at x i = absurd i
 
 -- of what is asked
-deed_lengths : (at : Stand) (s : Store) (d : Deed) (drawn : List (List ℕ)) (n : ℕ) → n ≤ most_file_bytes → IsWellNamed d → deed_refusal s d n ≡ None → IsSized s
+deed_lengths : (at : Stand) (strict : Bool) (s : Store) (d : Deed) (drawn : List (List ℕ)) (n : ℕ) → n ≤ most_file_bytes → IsWellNamed d → deed_refusal strict s d n ≡ None → IsSized s
     → length drawn ≡ length (told_step at (deed_note s d (replicate 32 0))).given → All (λ (key : List ℕ). length key ≡ 32) drawn
     → HasLength (told_step at (deed_note s d (replicate 32 0))) (deed_text s d ++ deed_key d (first_key drawn))
-deed_lengths at s (Commanded r) drawn n small good none sized long sizes =
-    lengths at s r (first_key drawn) (replicate 32 0) n small good none sized (keyed at s r (replicate 32 0) drawn long sizes)
-deed_lengths at s Upgrading drawn n small good none sized long sizes = seals_nothing at
+deed_lengths at strict s (Commanded r) drawn n small good none sized long sizes =
+    lengths at s r (first_key drawn) (replicate 32 0) n small good (accepted_in strict s r n none) sized (keyed at s r (replicate 32 0) drawn long sizes)
+deed_lengths at strict s Upgrading drawn n small good none sized long sizes = seals_nothing at
 
 -- ---- the whole
 
@@ -140,7 +141,7 @@ sealing keys at note ring counter s text drawn holds can skeleton small long roo
     can_seal keys at.keys (edges at.store) (change_of (is_strict at.keys) at.store note) (pieces_of note (told_store at.store note)) ring counter s text holds can skeleton drawn small long room sizes
 
 pub sound_seals : (o : OwnerView) (r : Deed) (drawn : List (List ℕ)) (s : Skeleton) (ring : Ringed) (counter : Counting) → IsSound o → IsWellNamed r
-    → deed_refusal (own_store o) r o.file_bytes ≡ None
+    → deed_refusal (is_strict o.state.keys) (own_store o) r o.file_bytes ≡ None
     → ((at : Stand) → IsSeenAs o.state at → IsSkeleton (told_step (begun (not o.journal.has_epoch) at) (deed_note (own_store o) r (replicate 32 0))) s)
     → ((at : Stand) → IsSeenAs o.state at → note_fits (begun (not o.journal.has_epoch) at) (deed_note (own_store o) r (replicate 32 0))
     (told_step (begun (not o.journal.has_epoch) at) (deed_note (own_store o) r (replicate 32 0))) ≡ true)
@@ -157,4 +158,4 @@ sound_seals o r drawn s ring counter sound good none skeleton fits same room lon
     let text = deed_same (tree_store o.state.tree o.names) (own_store o) r (own_kept o).tree in
     sealing sound.keys at note ring counter s (sealed_text o r drawn) drawn holds (begun_sealable (not o.journal.has_epoch) sound.turns note sound.fit fit) made (has_room at note fit) long room
     (subst (λ t. HasLength (told_step at note) (t ++ deed_key r (first_key drawn))) (sym text)
-    (deed_lengths at (own_store o) r drawn o.file_bytes sound.bounded good none (files_sized (own_store o) sound.sized) (long ∙ ap length made.keys) sizes))
+    (deed_lengths at (is_strict o.state.keys) (own_store o) r drawn o.file_bytes sound.bounded good none (files_sized (own_store o) sound.sized) (long ∙ ap length made.keys) sizes))

@@ -5,6 +5,7 @@ use Rattle.std.proofs.lemmas.Bool.{and_from, and_parts, eq-eqb, eqb-true}
 use Rattle.chacha_seal.specs.Keys.{KeyParts}
 use Rattle.chacha_seal.specs.Serials.{Counting}
 use Rattle.cry_base.specs.Limits.{most_file_bytes}
+use Rattle.cry_base.proofs.Versions.{accepted_in}
 use Rattle.cry_base.specs.Refusing.{id_of, refusal_of}
 use Rattle.cry_base.specs.Requests.{Request}
 use Rattle.cry_base.specs.Requests.Request.{AddHolder, MakeFolder, WriteFile, Remove, Rename, Relocate, Grant, Revoke}
@@ -24,7 +25,7 @@ use Rattle.record_format.specs.Noted.Note.{Root, NewHolder, NewFolder, NewFile, 
 use Rattle.public_fold.specs.Fitted.{told_stand, told_step}
 use Rattle.public_fold.specs.Heads.{IsSkeleton}
 use Rattle.public_fold.specs.Journal.{Stand, note_step, nothing}
-use Rattle.public_fold.specs.KeyStep.{key_step, next_epoch, published, step_with}
+use Rattle.public_fold.specs.KeyStep.{is_strict, key_step, next_epoch, published, step_with}
 use Rattle.public_fold.specs.Preparing.{begun, begun_keys}
 use Rattle.public_fold.specs.StandFits.{note_fits}
 use Rattle.public_fold.specs.Standing.{IsSeenAs}
@@ -251,18 +252,18 @@ unfolding told_stand
 told_files at note = refl
 
 -- of what is asked
-deed_titles_stay : (s : Store) (d : Deed) (n : ℕ) (old new : Titles) (x : ℕ) → n ≤ most_file_bytes → deed_refusal s d n ≡ None → AreDeedTitles s d old new → IsSizedAt old x → IsSizedAt new x
-deed_titles_stay s (Commanded r) n old new x small none titles sized = titles_stay s r n old new x small none titles sized
-deed_titles_stay s Upgrading n old new x small none are sized = kept_sized old new x are sized
+deed_titles_stay : (strict : Bool) (s : Store) (d : Deed) (n : ℕ) (old new : Titles) (x : ℕ) → n ≤ most_file_bytes → deed_refusal strict s d n ≡ None → AreDeedTitles s d old new → IsSizedAt old x → IsSizedAt new x
+deed_titles_stay strict s (Commanded r) n old new x small none titles sized = titles_stay s r n old new x small (accepted_in strict s r n none) titles sized
+deed_titles_stay strict s Upgrading n old new x small none are sized = kept_sized old new x are sized
 
-deed_made_stays : (s : Store) (d : Deed) (check : List ℕ) (n : ℕ) (old new : Titles) → n ≤ most_file_bytes → deed_refusal s d n ≡ None → AreDeedTitles s d old new → MakesFile (deed_note s d check)
+deed_made_stays : (strict : Bool) (s : Store) (d : Deed) (check : List ℕ) (n : ℕ) (old new : Titles) → n ≤ most_file_bytes → deed_refusal strict s d n ≡ None → AreDeedTitles s d old new → MakesFile (deed_note s d check)
     → IsSizedAt new (s.files_made + 1)
-deed_made_stays s (Commanded r) check n old new small none titles makes = made_stays s r check n old new small none titles makes
-deed_made_stays s Upgrading check n old new small none are makes = absurd makes
+deed_made_stays strict s (Commanded r) check n old new small none titles makes = made_stays s r check n old new small (accepted_in strict s r n none) titles makes
+deed_made_stays strict s Upgrading check n old new small none are makes = absurd makes
 
 -- so of all files behind a command
 files_stay : (r : Deed) (old new : OwnerView) (begins : Bool) (at : Stand) → IsSeenAs old.state at → IsSeenAs new.state (told_stand (begun begins at) (deed_note (own_store old) r (replicate 32 0)))
-    → old.file_bytes ≤ most_file_bytes → deed_refusal (own_store old) r old.file_bytes ≡ None → AreDeedTitles (own_store old) r old.names new.names
+    → old.file_bytes ≤ most_file_bytes → deed_refusal (is_strict old.state.keys) (own_store old) r old.file_bytes ≡ None → AreDeedTitles (own_store old) r old.names new.names
     → ((x : FileEntry) → In x (own_store old).files → length x.bytes ≤ most_file_bytes) → (x : FileEntry) → In x (own_store new).files → length x.bytes ≤ most_file_bytes
 files_stay r old new begins at seen after small none titles sized x i =
     let note = deed_note (own_store old) r (replicate 32 0) in
@@ -272,10 +273,10 @@ files_stay r old new begins at seen after small none titles sized x i =
     (⊎_elim
     (λ (w : (y : FileEntry) × In y at.store.files × (y.id ≡ own.0.id)).
     let old_one = subst (λ fs. In w.0 fs) (ap (λ (s : Store). s.files) seen.store) w.1 in
-    subst (IsSizedAt new.names) w.2 (deed_titles_stay (own_store old) r old.file_bytes old.names new.names w.0.id small none titles (sized (named_file old.names w.0) (file_owned old w.0 old_one))))
+    subst (IsSizedAt new.names) w.2 (deed_titles_stay (is_strict old.state.keys) (own_store old) r old.file_bytes old.names new.names w.0.id small none titles (sized (named_file old.names w.0) (file_owned old w.0 old_one))))
     (λ (w : MakesFile note × (own.0.id ≡ at.store.files_made + 1)).
     let number : (own_store old).files_made + 1 ≡ own.0.id = ap (λ n. n + 1) (made_same old ∙ sym (ap (λ (s : Store). s.files_made) seen.store)) ∙ sym w.1 in
-    subst (IsSizedAt new.names) number (deed_made_stays (own_store old) r (replicate 32 0) old.file_bytes old.names new.names small none titles w.0))
+    subst (IsSizedAt new.names) number (deed_made_stays (is_strict old.state.keys) (own_store old) r (replicate 32 0) old.file_bytes old.names new.names small none titles w.0))
     (files_after at.store note own.0 there))
 
 -- ---- the whole
@@ -296,7 +297,7 @@ unfolding told_step told_stand
 keys_on r drawn old new was shows out keys at note held can skeleton = out.keys_then keys at note (told_store at.store note) held can skeleton
 
 pub stays_sound : (r : Deed) (drawn : List (List ℕ)) (old new : OwnerView) (was shows : Option (List ℕ)) → IsSound old → IsWellNamed r
-    → deed_refusal (own_store old) r old.file_bytes ≡ None
+    → deed_refusal (is_strict old.state.keys) (own_store old) r old.file_bytes ≡ None
     → ((at : Stand) → IsSeenAs old.state at → note_fits (begun (not old.journal.has_epoch) at) (deed_note (own_store old) r (replicate 32 0))
     (told_step (begun (not old.journal.has_epoch) at) (deed_note (own_store old) r (replicate 32 0))) ≡ true)
     → IsCarriedOut r drawn old new was shows

@@ -1,6 +1,7 @@
 -- The store that an owner keeps, whatever it was opened on, and how many of each kind were ever made in it.
 use Rattle.std.proofs.Common.{ℕ, suc, ◌+◌, ◌*◌, ◌≤◌, ◌<◌, List, [], ◌∷◌, length, refl, ap, arith}
 use Rattle.std.specs.List.{range_with_len}
+use Rattle.cry_base.specs.Clearances.{clear_base}
 use Rattle.cry_base.specs.Layout.{batch_len, header_len}
 use Rattle.cry_base.specs.Limits.{most_store_bytes}
 use Rattle.cry_base.specs.Stepping.{with_new_holder, with_new_folder, with_new_file, with_folder, with_file, without_folder, without_file, without_grant}
@@ -82,6 +83,9 @@ from_nothing : (turns : List Turn) → AreWithin (length turns) (record { store 
 unfolding nothing
 from_nothing turns = turns_within nothing turns
 
+few_below : (n m made : ℕ) → n ≤ m → header_len + batch_len * m ≤ most_store_bytes → made ≤ n → made < clear_base
+few_below n m made a b c = omega arith
+
 few : (n m made : ℕ) → n ≤ m → header_len + batch_len * m ≤ most_store_bytes → made ≤ n → made < 4294967295
 few n m made a b c = omega arith
 
@@ -96,6 +100,13 @@ module _ (o : OwnerView) (sound : IsSound o) (room : header_len + batch_len * o.
   pub files_few : o.state.tree.files_made < 4294967295
   unfolding no_store
   files_few = let same = ap (λ (s : Store). s.files_made) sound.seen.store in let low = (from_nothing sound.turns).files in made_few o.state.tree.files_made (omega arith)
+
+  pub files_below : o.state.tree.files_made < clear_base
+  unfolding no_store
+  files_below =
+      let same = ap (λ (s : Store). s.files_made) sound.seen.store in
+      let low = (from_nothing sound.turns).files in
+      few_below (length sound.turns) o.journal.batches o.state.tree.files_made sound.numbered room (omega arith)
 
   pub holders_few : length o.state.checks < 4294967295
   unfolding no_store

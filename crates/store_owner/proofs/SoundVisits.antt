@@ -4,6 +4,7 @@ use Rattle.std.specs.Prelude.{IsSome, drop, nat_le, nat_lt, take, Result, Ok, Er
 use Rattle.std.proofs.lemmas.Bool.{and_parts, leb-true}
 use Rattle.commit_journal.specs.Answering.{Fault, Damaged, and_then}
 use Rattle.commit_journal.specs.Placed.{PlainPlaced}
+use Rattle.cry_base.specs.Clearances.{clear_number}
 use Rattle.cry_base.specs.Limits.{most_file_bytes}
 use Rattle.cry_base.specs.Naming.{is_name}
 use Rattle.cry_base.specs.Sets.{In}
@@ -17,15 +18,16 @@ use Rattle.log_visits.specs.Folding.{folded}
 use Rattle.log_visits.specs.Placing.{PlacedContent, PlacedLink, content_for, link_for}
 use Rattle.log_visits.specs.Verdict.{open_content, open_link}
 use Rattle.log_visits.specs.Visiting.{Opened, Reading, is_file_text, is_folder_text, key_of, needed, visit, visit_all, visit_edge, visit_text, with_holder_key, with_key, with_name_at, with_parts, with_text_at}
-use Rattle.log_visits.specs.Visits.{Visit, all_visits, allowed_visits, entry_edge, entry_visits, file_visits, files_that, folders_that, holder_visits, is_entry, lower_visits, name_visits, upper_visits, visits_to_names}
+use Rattle.log_visits.specs.Visits.{Visit, all_visits, allowed_visits, clearance_visits, entry_edge, entry_file_visits, entry_folder_visits, entry_visits, file_visits, files_that, folders_that, holder_visits, into_file, is_entry, lower_visits, name_visits, upper_visits, visits_to_names, writing_visits}
 use Rattle.log_visits.specs.Visits.Visit.{ToKey, ToName, ToFile, ToHolder}
 use Rattle.move_plan.specs.Change.{folder_of_file}
 use Rattle.move_plan.specs.Fitting.{folder_stands}
 use Rattle.record_format.specs.Noted.{Note}
 use Rattle.record_format.specs.Noted.Note.{Root, NewHolder, NewFolder, NewFile, Rewrite, NameFile, NameFolder, DropFile, DropFolder, ShiftFile, ShiftFolder, Give, Take, StrictRoot, Upgrade}
-use Rattle.role_graph.specs.Edges.{edge, file_edge}
-use Rattle.role_graph.specs.Rights.{allowed_to, named_to}
+use Rattle.role_graph.specs.Edges.{edge, file_edge, has_grants}
+use Rattle.role_graph.specs.Rights.{allowed_to, file_allowed_to, named_to}
 use Rattle.role_graph.specs.Rights.Who.{TheOwner}
+use Rattle.role_graph.specs.RightsByReach.{HasFolder, IsClearance}
 use Rattle.role_graph.specs.Roles.{back_of, clear_of, data_of, file_role, files_of, holder_role, same_role, sub_of}
 use Rattle.role_graph.proofs.Comparing.{same_role_tells}
 use Rattle.role_graph.proofs.Edging.{In-order}
@@ -195,10 +197,11 @@ file_passes test s e i t =
 
 -- the visits of a folder, and of a file, in each part
 entry_of : (s : Store) (e : FolderEntry) (v : Visit) → In e s.folders → In v (ToKey (edge 1 Owner (clear_of e.id)) ∷ ToKey (edge 3 (clear_of e.id) (sub_of e.id)) ∷ []) → In v (entry_visits s TheOwner)
-unfolding entry_visits entry_edge is_entry
+unfolding entry_visits entry_folder_visits entry_edge is_entry
 entry_of s e v i j =
-    (In-flat_map ℕ Visit (λ f. ToKey (edge 1 Owner (clear_of f)) ∷ ToKey (edge 3 (clear_of f) (sub_of f)) ∷ []) v (folders_that (is_entry s TheOwner) s)).1
-    (e.id, folder_passes (is_entry s TheOwner) s e i refl, j)
+    (In-append Visit v (entry_folder_visits s TheOwner) (entry_file_visits s TheOwner)).1 (inl
+    ((In-flat_map ℕ Visit (λ f. ToKey (edge 1 Owner (clear_of f)) ∷ ToKey (edge 3 (clear_of f) (sub_of f)) ∷ []) v (folders_that (is_entry s TheOwner) s)).1
+    (e.id, folder_passes (is_entry s TheOwner) s e i refl, j)))
 
 allowed_of : (s : Store) (e : FolderEntry) (v : Visit) → In e s.folders → In v (ToKey (edge 4 (sub_of e.id) (back_of e.id)) ∷ ToKey (edge 5 (sub_of e.id) (files_of e.id)) ∷ []) → In v (allowed_visits s TheOwner)
 unfolding allowed_visits allowed_to
@@ -212,14 +215,20 @@ name_of s e v i j =
     (In-flat_map ℕ Visit (λ f. ToKey (edge 7 (back_of f) (data_of f)) ∷ ToName f ∷ []) v (folders_that (named_to s TheOwner) s)).1
     (e.id, folder_passes (named_to s TheOwner) s e i refl, j)
 
-file_of : (s : Store) (e : FileEntry) (v : Visit) → In e s.files → In v (ToKey (file_edge (folder_of_file s e.id) e.id) ∷ ToFile e.id ∷ []) → In v (file_visits s (files_that (λ d. allowed_to s TheOwner d.folder) s))
-unfolding file_visits allowed_to
+file_of : (s : Store) (e : FileEntry) (v : Visit) → In e s.files → In v (ToKey (file_edge (folder_of_file s e.id) e.id) ∷ ToFile e.id ∷ []) → In v (file_visits s TheOwner (files_that (file_allowed_to s TheOwner) s))
+unfolding file_visits into_file allowed_to file_allowed_to
 file_of s e v i j =
-    (In-flat_map ℕ Visit (λ x. ToKey (file_edge (folder_of_file s x) x) ∷ ToFile x ∷ []) v (files_that (λ d. allowed_to s TheOwner d.folder) s)).1
-    (e.id, file_passes (λ d. allowed_to s TheOwner d.folder) s e i refl, j)
+    (In-flat_map ℕ Visit (λ x. ToKey (file_edge (folder_of_file s x) x) ∷ ToFile x ∷ []) v (files_that (file_allowed_to s TheOwner) s)).1
+    (e.id, file_passes (file_allowed_to s TheOwner) s e i refl, j)
+
+clearance_of : (s : Store) (e : FileEntry) → In e s.files → has_grants s (clear_number e.id) ≡ true → In (ToKey (edge 1 Owner (clear_of (clear_number e.id)))) (clearance_visits s)
+unfolding clearance_visits
+clearance_of s e i t =
+    let test : FileEntry → Bool = λ d. has_grants s (clear_number d.id) in
+    (In-map ℕ Visit (λ x. ToKey (edge 1 Owner (clear_of (clear_number x)))) (ToKey (edge 1 Owner (clear_of (clear_number e.id)))) (files_that test s)).1 (e.id, file_passes test s e i t, refl)
 
 abbrev all_of : Store → List Visit
-all_of s = all_visits s TheOwner ++ holder_visits s
+all_of s = all_visits s TheOwner ++ writing_visits s
 
 in_left : (x : Visit) (xs ys : List Visit) → In x xs → In x (xs ++ ys)
 in_left x xs ys i = (In-append Visit x xs ys).1 (inl i)
@@ -245,11 +254,11 @@ module _ (s : Store) (v : Visit) where
   names = name_visits s TheOwner
 
   abbrev files : List Visit
-  files = file_visits s (files_that (λ d. allowed_to s TheOwner d.folder) s)
+  files = file_visits s TheOwner (files_that (file_allowed_to s TheOwner) s)
 
   in_tree : In v (entries ++ (lowers ++ (insides ++ (uppers ++ names)))) → In v (all_of s)
   unfolding all_visits visits_to_names
-  in_tree i = in_left v (all_visits s TheOwner) (holder_visits s) (in_left v (entries ++ (lowers ++ (insides ++ (uppers ++ names)))) files i)
+  in_tree i = in_left v (all_visits s TheOwner) (writing_visits s) (in_left v (entries ++ (lowers ++ (insides ++ (uppers ++ names)))) files i)
 
   in_entry : In v entries → In v (all_of s)
   in_entry i = in_tree (in_left v entries (lowers ++ (insides ++ (uppers ++ names))) i)
@@ -263,16 +272,26 @@ module _ (s : Store) (v : Visit) where
 
   in_files : In v files → In v (all_of s)
   unfolding all_visits
-  in_files i = in_left v (all_visits s TheOwner) (holder_visits s) (in_right v (visits_to_names s TheOwner) files i)
+  in_files i = in_left v (all_visits s TheOwner) (writing_visits s) (in_right v (visits_to_names s TheOwner) files i)
+
+  in_clearances : In v (clearance_visits s) → In v (all_of s)
+  unfolding writing_visits
+  in_clearances i = in_right v (all_visits s TheOwner) (writing_visits s) (in_right v (holder_visits s) (clearance_visits s) i)
 
 -- every role that stands is opened, the holders' aside
 role_open : (s : Store) (r : Reading) (o after : Opened) (role : Role) → visit_all r (all_of s) o ≡ Ok after → IsSome (key_of o.keys Owner) → ((h : ℕ) → role ≢ holder_role h) → HasRole s role → IsSome (key_of after.keys role)
 unfolding edge file_edge holder_role clear_of sub_of back_of files_of data_of file_role
 role_open s r o after Owner done first other has = (all_kept r (all_of s) o after done).keys Owner first
 role_open s r o after (Holder h) done first other has = absurd (other h.0 refl)
-role_open s r o after (Clear f) done first other has =
-    let v = edge 1 Owner (clear_of has.0.id) in
-    subst (λ n. IsSome (key_of after.keys (clear_of n))) has.2 (edge_open r (all_of s) o after v done (in_entry s (ToKey v) (entry_of s has.0 (ToKey v) has.1 (inl refl))))
+role_open s r o after (Clear f) done first other has = ⊎_elim
+    (λ (w : HasFolder s f.0).
+    let v = edge 1 Owner (clear_of w.0.id) in
+    subst (λ n. IsSome (key_of after.keys (clear_of n))) w.2 (edge_open r (all_of s) o after v done (in_entry s (ToKey v) (entry_of s w.0 (ToKey v) w.1 (inl refl)))))
+    (λ (w : IsClearance s f.0).
+    let c = w.0 in
+    let v = edge 1 Owner (clear_of (clear_number c.0.id)) in
+    subst (λ n. IsSome (key_of after.keys (clear_of n))) c.2 (edge_open r (all_of s) o after v done (in_clearances s (ToKey v) (clearance_of s c.0 c.1 (subst (λ n. has_grants s n ≡ true) (sym c.2) w.1)))))
+    has
 role_open s r o after (Sub f) done first other has =
     let v = edge 3 (clear_of has.0.id) (sub_of has.0.id) in
     subst (λ n. IsSome (key_of after.keys (sub_of n))) has.2 (edge_open r (all_of s) o after v done (in_entry s (ToKey v) (entry_of s has.0 (ToKey v) has.1 (inr (inl refl)))))

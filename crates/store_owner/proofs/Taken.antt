@@ -10,6 +10,7 @@ use Rattle.cry_io.specs.Told.{WhereBothTold}
 use Rattle.cry_io.proofs.ToldLemmas.{both_told_through, told_again}
 use Rattle.public_fold.specs.Fitted.{told_step}
 use Rattle.public_fold.specs.Journal.{nothing, Stand}
+use Rattle.public_fold.specs.KeyStep.{is_strict}
 use Rattle.public_fold.specs.Preparing.{begun}
 use Rattle.public_fold.specs.Standing.{IsSeenAs}
 use Rattle.public_fold.specs.Turns.{turns_stand}
@@ -67,7 +68,7 @@ are_planned o mid r p room store drafted = λ at seen.
     ∙ ap (λ (n : Note). length (told_step (begun (not o.journal.has_epoch) at) n).given) told
 
 -- the source ended before they were filled
-module _ (o : OwnerView) (r : Deed) (keys : ℕ) (before after : Option (List ℕ)) (sound : IsSound o) (accepted : deed_refusal (own_store o) r o.file_bytes ≡ None)
+module _ (o : OwnerView) (r : Deed) (keys : ℕ) (before after : Option (List ℕ)) (sound : IsSound o) (accepted : deed_refusal (is_strict o.state.keys) (own_store o) r o.file_bytes ≡ None)
     (planned : ArePlanned o r keys) (small : 32 * keys < 2 ^ 32) (told : is_some after ≡ is_some before) where
   filled_short : (given wanted : ℕ) → IsFillFault {T = Listed (List ℕ)} keys (Err (faults.RandomShort given wanted))
       → WhereBothTold before after (DrawsKeys keys (Err (faults.RandomShort given wanted))) → FallsShort o r given wanted before after

@@ -15,7 +15,7 @@ use Rattle.public_fold.specs.Fitted.{told_step}
 use Rattle.public_fold.specs.Heads.{IsSkeleton, content_head}
 use Rattle.public_fold.specs.Journal.{Entry, Journal, Stand, entry_step, keys_of, nothing, stand_after, steps_from, steps_of, store_of}
 use Rattle.public_fold.specs.Journal.Entry.{Session}
-use Rattle.public_fold.specs.KeyStep.{Stepped}
+use Rattle.public_fold.specs.KeyStep.{Stepped, is_strict}
 use Rattle.public_fold.specs.Keyed.{links_of}
 use Rattle.public_fold.specs.Lengths.{end_of}
 use Rattle.public_fold.specs.Preparing.{begun}
@@ -125,7 +125,7 @@ skeleton_of s = record {
   contents = record { items = map content_head s.contents; spare = 0 };
 }
 
-told_counts : (m : Journal) (new : Bool) (r : Deed) (drawn : List (List ℕ)) (file_bytes : ℕ) (c : Counted) → deed_refusal (store_of m) r file_bytes ≡ None
+told_counts : (m : Journal) (new : Bool) (r : Deed) (drawn : List (List ℕ)) (file_bytes : ℕ) (c : Counted) → deed_refusal (is_strict (keys_of m)) (store_of m) r file_bytes ≡ None
     → with_more c (deed_count r) (length (told_step (begun new (public_stand m)) (deed_note (store_of m) r (replicate 32 0))).links) (length (told_step (begun new (public_stand m)) (deed_note (store_of m) r (replicate 32 0))).contents)
     ≡ with_more c (deed_count r) (length (entry_step (begun new (stand_after nothing m)) (deed_entry r drawn)).links) (length (entry_step (begun new (stand_after nothing m)) (deed_entry r drawn)).contents)
 told_counts m new r drawn file_bytes c fine =
@@ -135,7 +135,7 @@ told_counts m new r drawn file_bytes c fine =
     sym (length-map told.contents content_head) ∙ ap length is.contents ∙ length-map (entry_step (begun new (stand_after nothing m)) (deed_entry r drawn)).contents content_head in
     (λ i. with_more c (deed_count r) (length (is.links i)) (long i))
 
-pub counts_on : (m : Journal) (r : Deed) (drawn : List (List ℕ)) (old new : OwnerView) → IsOwnerOf m old → deed_refusal (store_of m) r old.file_bytes ≡ None → CountsOne r old new
+pub counts_on : (m : Journal) (r : Deed) (drawn : List (List ℕ)) (old new : OwnerView) → IsOwnerOf m old → deed_refusal (is_strict (keys_of m)) (store_of m) r old.file_bytes ≡ None → CountsOne r old new
     → old.tally ≡ counted_in m → new.tally ≡ counted_in (deed_then m old.journal.has_epoch r drawn)
 counts_on m r drawn old new is fine one same =
     one (public_stand m) (store_of m) is.seen (store_kept m old is)

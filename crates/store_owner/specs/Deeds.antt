@@ -1,7 +1,7 @@
 -- What an owner is asked to do, a command or an upgrade, and what of each hangs on which it is. This project's own, docs/FORMAT.md, "The
 -- key step".
 use Rattle.std.specs.Prelude.{◌≡◌, ℕ, Bool, false, cond, List, [], ◌∷◌, ◌++◌, Option, None}
-use Rattle.cry_base.specs.Refusing.{has_bad_name, refusal_of}
+use Rattle.cry_base.specs.Refusing.{has_bad_name, refusal_in}
 use Rattle.cry_base.specs.Requests.{Request, request_of}
 use Rattle.cry_base.specs.Store.{Store}
 use Rattle.cry_base.specs.declared.commands.Refusal.{Refusal}
@@ -37,10 +37,10 @@ abbrev pub deed_note : Store → Deed → List ℕ → Note
 deed_note s (Commanded r) check = note_of s r check
 deed_note s Upgrading check = Upgrade
 
--- why the store itself refuses it
-abbrev pub deed_refusal : Store → Deed → ℕ → Option Refusal
-deed_refusal s (Commanded r) file_bytes = refusal_of s r file_bytes
-deed_refusal s Upgrading file_bytes = None
+-- why the store itself refuses it: one of version 2 where strict is true, and else one of version 1
+abbrev pub deed_refusal : Bool → Store → Deed → ℕ → Option Refusal
+deed_refusal strict s (Commanded r) file_bytes = refusal_in strict s r file_bytes
+deed_refusal strict s Upgrading file_bytes = None
 
 -- the names that it gives are names
 abbrev pub IsWellNamed : Deed → Type 0

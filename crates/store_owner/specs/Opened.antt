@@ -21,7 +21,7 @@ use Rattle.log_visits.specs.Judging.{Failure, OfBytes}
 use Rattle.log_visits.specs.Opening.{HasHolder, IsOpenedBy, is_no_holders}
 use Rattle.log_visits.specs.Visiting.{Opened, Reading, visit_all}
 use Rattle.log_visits.specs.declared.opening.OwnersView.{OwnersView}
-use Rattle.log_visits.specs.Visits.{Visit, all_visits, holder_visits}
+use Rattle.log_visits.specs.Visits.{Visit, all_visits, writing_visits}
 use Rattle.key_links.specs.Ringed.{Ringed}
 use Rattle.move_plan.specs.Fitting.{folder_stands}
 use Rattle.public_fold.specs.Journal.{Stand, nothing}
@@ -35,7 +35,7 @@ abbrev pub reading_with : List PlainPlaced → Stand → Reading
 reading_with log at = record { log = log; stand = at }
 
 abbrev pub visits_of : Stand → List Visit
-visits_of at = all_visits at.store TheOwner ++ holder_visits at.store
+visits_of at = all_visits at.store TheOwner ++ writing_visits at.store
 
 abbrev pub starts_with : List ℕ → Stand → Opened
 starts_with owner at = record { keys = (Owner, owner) ∷ []; store = at.store }

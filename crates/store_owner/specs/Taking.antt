@@ -3,6 +3,7 @@ use Rattle.std.specs.Prelude.{◌≡◌, ◌<◌, ◌*◌, ℕ, not, List, [], �
 use Rattle.cry_io.specs.Told.{WhereTold, WhereBothTold}
 use Rattle.public_fold.specs.Fitted.{told_step}
 use Rattle.public_fold.specs.Journal.{Stand}
+use Rattle.public_fold.specs.KeyStep.{is_strict}
 use Rattle.public_fold.specs.Preparing.{begun}
 use Rattle.public_fold.specs.Standing.{IsSeenAs}
 use Rattle.store_owner.specs.Deeds.{Deed, deed_note, deed_refusal}
@@ -24,7 +25,7 @@ keys_planned o at d = length (told_step (begun (not o.journal.has_epoch) at) (de
 pub record FallsShort (o : OwnerView) (d : Deed) (left need : ℕ) (before after : Option (List ℕ)) : Type 0 where
   pub at : Stand
   pub seen : IsSeenAs o.state at
-  pub accepted : deed_refusal (own_store o) d o.file_bytes ≡ None
+  pub accepted : deed_refusal (is_strict o.state.keys) (own_store o) d o.file_bytes ≡ None
   pub is_need : (other : Stand) → IsSeenAs o.state other → need ≡ 32 * keys_planned o other d
   pub is_short : left < need
   pub were_left : WhereTold before (λ x. length x ≡ left)

@@ -12,7 +12,8 @@ ghost use Rattle.cry_io.specs.Told.{WhereBothTold};
 ghost use Rattle.folder_nodes.specs.Titles.{tree_store};
 ghost use Rattle.public_fold.specs.Fitted.{told_step};
 ghost use Rattle.public_fold.specs.Heads.{IsSkeleton};
-ghost use Rattle.public_fold.specs.Journal.{Journal, store_of};
+ghost use Rattle.public_fold.specs.Journal.{Journal, keys_of, store_of};
+ghost use Rattle.public_fold.specs.KeyStep.{is_strict};
 ghost use Rattle.public_fold.specs.Preparing.{begun};
 ghost use Rattle.public_fold.specs.StandFits.{note_fits};
 ghost use Rattle.public_fold.specs.declared.heads.Skeleton.{Skeleton};
@@ -73,21 +74,21 @@ pub fn interrupted_commands_leave_a_journal()
 /// is; the journal tells where it would end; and its note fits, unless it would end past the largest store.
 pub fn commands_are_measured()
     ensures payload { (m : Journal) (d : Deed) (o : OwnerView) (s : Skeleton) → IsOwnerOf m o
-        → deed_refusal (store_of m) d o.file_bytes ≡ None
+        → deed_refusal (is_strict (keys_of m)) (store_of m) d o.file_bytes ≡ None
         → IsSkeleton (told_step (begun (not o.journal.has_epoch) (public_stand m)) (deed_note (store_of m) d (replicate 32 0))) s
         → skeleton_size (deed_note (store_of m) d (replicate 32 0)) s (length (deed_text (tree_store o.state.tree o.names) d
         ++ deed_key d (replicate 32 0))) ≡ deed_payload m d }
     ensures draws { (m : Journal) (d : Deed) (o : OwnerView) (s : Skeleton) → IsOwnerOf m o
-        → deed_refusal (store_of m) d o.file_bytes ≡ None
+        → deed_refusal (is_strict (keys_of m)) (store_of m) d o.file_bytes ≡ None
         → IsSkeleton (told_step (begun (not o.journal.has_epoch) (public_stand m)) (deed_note (store_of m) d (replicate 32 0))) s
         → length s.keys.items ≡ deed_draws m d }
     ensures few { (m : Journal) (d : Deed) (o : OwnerView) → IsOwnerOf m o → o.file_bytes ≤ most_file_bytes
-        → deed_refusal (store_of m) d o.file_bytes ≡ None
+        → deed_refusal (is_strict (keys_of m)) (store_of m) d o.file_bytes ≡ None
         → deed_end m o.journal.has_epoch d ≤ most_store_bytes → 32 * deed_draws m d < 2 ^ 32 }
     ensures end { (m : Journal) (d : Deed) (o : OwnerView) → IsOwnerOf m o
         → end_with o.journal (deed_payload m d) ≡ deed_end m o.journal.has_epoch d }
     ensures fits { (m : Journal) (d : Deed) (o : OwnerView) → IsOwnerOf m o → o.file_bytes ≤ most_file_bytes → Suits o.state.keys d
-        → deed_refusal (store_of m) d o.file_bytes ≡ None
+        → deed_refusal (is_strict (keys_of m)) (store_of m) d o.file_bytes ≡ None
         → note_fits (begun (not o.journal.has_epoch) (public_stand m)) (deed_note (store_of m) d (replicate 32 0))
         (told_step (begun (not o.journal.has_epoch) (public_stand m)) (deed_note (store_of m) d (replicate 32 0))) ≡ false
         → most_store_bytes < deed_end m o.journal.has_epoch d }

@@ -1,5 +1,6 @@
 //! What an owner is asked to do, and what of a change hangs on which it is.
 ghost use Rattle.std.specs.Prelude.{◌≡◌, ◌+◌, ◌≤◌, ◌<◌, ◌^◌, ◌++◌, IfOk, length, replicate};
+ghost use Rattle.cry_base.specs.Clearances.{clear_base};
 ghost use Rattle.cry_base.specs.Requests.Request.{AddHolder};
 ghost use Rattle.cry_base.specs.Store.{Store};
 ghost use Rattle.folder_nodes.specs.Titles.{Titles, tree_store};
@@ -31,8 +32,9 @@ impl Asked<'_> {
     /// The note, in any store whose tree and grants these are. A new holder's check is all zeros in it.
     #[tactic(auto, unfolding(record_format::specs::Told::told_note))]
     pub(crate) fn note(&self, shape: &Shape, grants: &Grants) -> Note
+        requires found { (names : Titles) × IsFound (tree_store shape.now.tree names) self.now }
         requires folders { shape.now.tree.folders_made < 4294967295 }
-        requires files { shape.now.tree.files_made < 4294967295 }
+        requires files { shape.now.tree.files_made < clear_base }
         requires holders { length grants.now.checks < 4294967295 }
         ensures { (names : Titles) → IsFound (tree_store shape.now.tree names) self.now
             → (s : Store) → IsStoreOf shape.now.tree names grants.now s

@@ -6,7 +6,7 @@ ghost use Rattle.commit_journal.specs.Holding.{GoesOn};
 ghost use Rattle.commit_journal.specs.Journals.{IsBehind, Joins, next_command, MayJoin, next_epoch};
 ghost use Rattle.commit_journal.specs.Stopping.{KeepsPublished};
 ghost use Rattle.cry_base.specs.Layout.{batch_len};
-ghost use Rattle.cry_base.specs.Refusing.{has_bad_name, refusal_of};
+ghost use Rattle.cry_base.specs.Refusing.{has_bad_name, refusal_in};
 ghost use Rattle.cry_base.specs.Requests.{request_of};
 ghost use Rattle.cry_base.specs.Store.{Store};
 ghost use Rattle.cry_io.specs.Counts.{CountsFault};
@@ -22,6 +22,7 @@ ghost use Rattle.record_format.specs.Sizes.{payload_size};
 ghost use Rattle.record_format.specs.Spellable.{IsSpellable};
 ghost use Rattle.record_format.specs.Spelling.{spell_payload};
 ghost use Rattle.public_fold.specs.Journal.{Journal as AnyJournal};
+ghost use Rattle.public_fold.specs.KeyStep.{is_strict};
 ghost use Rattle.public_fold.specs.LookUps.{note_look_ups};
 ghost use Rattle.public_fold.specs.Preparing.{HasRoomFor};
 ghost use Rattle.journal_bytes.specs.Owning.{IsStoreOf};
@@ -316,7 +317,7 @@ impl Owner {
         requires found { IsFound (tree_store self.old.state.tree self.old.names) asked.now }
         requires form { IsWellNamed (deed_of asked.now) }
         requires accepted { (s : Store) → IsStoreOf self.old.state.tree self.old.names (granted_in self.old) s
-            → deed_refusal s (deed_of asked.now) self.old.file_bytes ≡ None }
+            → deed_refusal (is_strict self.old.state.keys) s (deed_of asked.now) self.old.file_bytes ≡ None }
         requires suits { Suits self.old.state.keys (deed_of asked.now) }
         ensures answers { (m : AnyJournal) → IsOwnerOf m self.old → Answers result m (deed_of asked.now) self.old self.new
             (R.left random.old) (R.left random.new) (D.shown disk.old) (D.shown disk.new)
@@ -372,19 +373,31 @@ impl Owner {
 
     /// What the command finds, or why the store itself refuses it.
     fn resolved<'a>(&self, command: &'a Command) -> Result<Target<'a>, Refusal>
+        requires open { self.now.journal.is_closed ≡ false }
         ensures cause { (s : Store) → IsStoreOf self.now.state.tree self.now.names (granted_in self.now) s
-            → why_of result ≡ refusal_of s (request_of command.now) self.now.file_bytes }
+            → why_of result ≡ refusal_in (is_strict self.now.state.keys) s (request_of command.now) self.now.file_bytes }
         ensures form { IfOk result (λ target. has_bad_name (request_of command.now) ≡ false) }
         ensures found { IfOk result (IsTargetOf (tree_store self.now.state.tree self.now.names) (request_of command.now)) }
         ensures short { IfOk result HasShortName }
     {
+        sound_owners_keep_a_store();
+        self.journal.journal_is_within();
         resolve(
             self.state.shape(),
             &self.names,
             self.state.grants(),
             self.limits,
+            self.is_strict(),
             command,
         )
+    }
+
+    /// Whether the store has version 2.
+    #[tactic(auto, unfolding(public_fold::specs::KeyStep::is_strict))]
+    fn is_strict(&self) -> bool
+        ensures { result ≡ is_strict self.now.state.keys }
+    {
+        self.state.version() == 2
     }
 
     /// What is sealed and changed for what is asked. `Unfit` comes only where its note doesn't fit.
@@ -427,7 +440,7 @@ impl Owner {
         requires open { self.old.journal.is_closed ≡ false }
         requires found { IsFound (tree_store self.old.state.tree self.old.names) asked.now }
         requires accepted { (s : Store) → IsStoreOf self.old.state.tree self.old.names (granted_in self.old) s
-            → deed_refusal s (deed_of asked.now) self.old.file_bytes ≡ None }
+            → deed_refusal (is_strict self.old.state.keys) s (deed_of asked.now) self.old.file_bytes ≡ None }
         requires suits { Suits self.old.state.keys (deed_of asked.now) }
         ensures room { HasOtherRoom self.old self.new }
         ensures answers { AnswersPlan result (deed_of asked.now) self.old self.new }
@@ -482,7 +495,7 @@ impl Owner {
         requires open { self.old.journal.is_closed ≡ false }
         requires inside { self.old.journal.end ≤ D.size_of disk.old }
         requires form { IsWellNamed (deed_of asked.now) }
-        requires accepted { deed_refusal (own_store self.old) (deed_of asked.now) self.old.file_bytes ≡ None }
+        requires accepted { deed_refusal (is_strict self.old.state.keys) (own_store self.old) (deed_of asked.now) self.old.file_bytes ≡ None }
         requires suits { Suits self.old.state.keys (deed_of asked.now) }
         requires drafted { IsDrafted (deed_of asked.now) self.old change }
         requires furnished { IsFurnished (deed_of asked.now) self.old change room }

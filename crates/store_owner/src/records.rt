@@ -80,7 +80,7 @@ fn seal_link(ring: &KeyRing, counter: &mut Counter, head: &LinkHead) -> LinkReco
     requires serial { counter.old.count < 4294967295 }
     ensures link { result ≡ link_by ring.now (serial_of counter.old.epoch counter.old.count) head.now }
     ensures from_one { 1 ≤ result.kind }
-    ensures to_nine { result.kind ≤ 9 }
+    ensures to_eleven { result.kind ≤ 11 }
     ensures counter { counter.new ≡ record { epoch = counter.old.epoch; count = counter.old.count + 1 } }
 {
     ring.publish(&head.edge, counter.next())
@@ -89,7 +89,7 @@ fn seal_link(ring: &KeyRing, counter: &mut Counter, head: &LinkHead) -> LinkReco
 /// Adds the link at the end.
 fn put_link(link: LinkRecord, links: &mut List<LinkRecord>)
     requires from_one { 1 ≤ link.kind }
-    requires to_nine { link.kind ≤ 9 }
+    requires to_eleven { link.kind ≤ 11 }
     requires room { 1 ≤ links.old.spare }
     requires spelled { All IsLink links.old.items }
     ensures links { links.new.items ≡ links.old.items ++ link ∷ [] }

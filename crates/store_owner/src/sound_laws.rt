@@ -5,6 +5,7 @@ ghost use Rattle.chacha_seal.specs.Serials.{Counting};
 ghost use Rattle.commit_journal.specs.Journals.{end_with};
 ghost use Rattle.commit_journal.specs.Logs.{AreInEpochs, epoch_behind};
 ghost use Rattle.commit_journal.specs.Placed.{PlainPlaced};
+ghost use Rattle.cry_base.specs.Clearances.{clear_base};
 ghost use Rattle.cry_base.specs.Layout.{batch_len, header_len};
 ghost use Rattle.cry_base.specs.Limits.{most_file_bytes, most_store_bytes};
 ghost use Rattle.cry_base.specs.Sets.{In};
@@ -13,14 +14,14 @@ ghost use Rattle.cry_base.specs.declared.roles.Role.{Role};
 ghost use Rattle.cry_base.specs.declared.roles.Role.TheVariants as roles;
 ghost use Rattle.log_visits.specs.Folding.{folded};
 ghost use Rattle.log_visits.specs.Visiting.{Opened, key_of, visit_all};
-ghost use Rattle.log_visits.specs.Visits.{all_visits, holder_visits};
+ghost use Rattle.log_visits.specs.Visits.{all_visits, writing_visits};
 ghost use Rattle.key_links.specs.Ringed.{Ringed};
 ghost use Rattle.move_plan.specs.Fitting.{folder_stands};
 ghost use Rattle.record_format.specs.Noted.{Note};
 ghost use Rattle.public_fold.specs.Fitted.{told_step};
 ghost use Rattle.public_fold.specs.Heads.{IsSkeleton};
 ghost use Rattle.public_fold.specs.Journal.{Stand, nothing};
-ghost use Rattle.public_fold.specs.KeyStep.{newest};
+ghost use Rattle.public_fold.specs.KeyStep.{is_strict, newest};
 ghost use Rattle.public_fold.specs.Preparing.{begun};
 ghost use Rattle.public_fold.specs.Standing.{IsSeenAs};
 ghost use Rattle.public_fold.specs.StandFits.{note_fits};
@@ -35,13 +36,15 @@ ghost use Rattle.store_owner.specs.Owned.{OwnerView};
 ghost use Rattle.store_owner.specs.Sound.{IsOpenedWith, IsSound, granted_in, own_store};
 
 /// Law: the store that an owner keeps is a store of its tree, names and grants, and numbers are left for one folder, file, holder
-/// and epoch more.
+/// and epoch more; each file has a clearance number.
 pub fn sound_owners_keep_a_store()
     ensures store { (o : OwnerView) → IsStoreOf o.state.tree o.names (granted_in o) (own_store o) }
     ensures folders { (o : OwnerView) → IsSound o
         → header_len + batch_len * o.journal.batches ≤ most_store_bytes → o.state.tree.folders_made < 4294967295 }
     ensures files { (o : OwnerView) → IsSound o
         → header_len + batch_len * o.journal.batches ≤ most_store_bytes → o.state.tree.files_made < 4294967295 }
+    ensures below { (o : OwnerView) → IsSound o
+        → header_len + batch_len * o.journal.batches ≤ most_store_bytes → o.state.tree.files_made < clear_base }
     ensures holders { (o : OwnerView) → IsSound o
         → header_len + batch_len * o.journal.batches ≤ most_store_bytes → length o.state.checks < 4294967295 }
     ensures epoch { (o : OwnerView) → IsSound o
@@ -52,7 +55,7 @@ pub fn sound_owners_keep_a_store()
 pub fn sound_owners_can_seal()
     ensures { (o : OwnerView) (d : Deed) (drawn : List (List ℕ)) (s : Skeleton) (ring : Ringed) (counter : Counting) → IsSound o
         → IsWellNamed d
-        → deed_refusal (own_store o) d o.file_bytes ≡ None
+        → deed_refusal (is_strict o.state.keys) (own_store o) d o.file_bytes ≡ None
         → ((at : Stand) → IsSeenAs o.state at → IsSkeleton
         (told_step (begun (not o.journal.has_epoch) at) (deed_note (own_store o) d (replicate 32 0))) s)
         → ((at : Stand) → IsSeenAs o.state at → note_fits (begun (not o.journal.has_epoch) at) (deed_note (own_store o) d (replicate 32 0))
@@ -76,7 +79,7 @@ pub fn sound_owners_draw_few_keys()
 pub fn carried_out_owners_stay_sound()
     ensures { (d : Deed) (drawn : List (List ℕ)) (old new : OwnerView) (was shows : Option (List ℕ)) → IsSound old
         → IsWellNamed d
-        → deed_refusal (own_store old) d old.file_bytes ≡ None
+        → deed_refusal (is_strict old.state.keys) (own_store old) d old.file_bytes ≡ None
         → ((at : Stand) → IsSeenAs old.state at → note_fits (begun (not old.journal.has_epoch) at)
         (deed_note (own_store old) d (replicate 32 0))
         (told_step (begun (not old.journal.has_epoch) at) (deed_note (own_store old) d (replicate 32 0))) ≡ true)
@@ -92,14 +95,14 @@ pub fn carried_out_owners_stay_sound()
 pub fn owners_visits_open_all()
     ensures keys { (log : List PlainPlaced) (at : Stand) (start after : Opened) → folded nothing log ≡ Ok at
         → folder_stands at.store 1 ≡ true → IsSome (key_of start.keys roles.Owner)
-        → visit_all (record { log = log; stand = at }) (all_visits at.store TheOwner ++ holder_visits at.store) start ≡ Ok after
+        → visit_all (record { log = log; stand = at }) (all_visits at.store TheOwner ++ writing_visits at.store) start ≡ Ok after
         → (role : Role) (n : ℕ) → newest at.keys.keys role ≡ Some n → ((h : ℕ) → role ≢ holder_role h) → IsSome (key_of after.keys role) }
     ensures holders { (log : List PlainPlaced) (at : Stand) (start after : Opened) → folded nothing log ≡ Ok at
         → folder_stands at.store 1 ≡ true → start.store ≡ at.store
-        → visit_all (record { log = log; stand = at }) (all_visits at.store TheOwner ++ holder_visits at.store) start ≡ Ok after
+        → visit_all (record { log = log; stand = at }) (all_visits at.store TheOwner ++ writing_visits at.store) start ≡ Ok after
         → (h n : ℕ) → newest at.keys.keys (holder_role h) ≡ Some n → (e : HolderEntry) × In e after.store.holders × (e.number ≡ h) }
     ensures sized { (log : List PlainPlaced) (at : Stand) (start after : Opened) → folded nothing log ≡ Ok at → start.store ≡ at.store
-        → visit_all (record { log = log; stand = at }) (all_visits at.store TheOwner ++ holder_visits at.store) start ≡ Ok after
+        → visit_all (record { log = log; stand = at }) (all_visits at.store TheOwner ++ writing_visits at.store) start ≡ Ok after
         → (x : FileEntry) → In x after.store.files → length x.bytes ≤ most_file_bytes }
 {}
 

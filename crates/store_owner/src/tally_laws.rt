@@ -1,6 +1,7 @@
 //! Laws of what an owner counts: the figures of its journal.
 ghost use Rattle.std.specs.Prelude.{◌≡◌, ℕ, List, None};
-ghost use Rattle.public_fold.specs.Journal.{Journal, store_of};
+ghost use Rattle.public_fold.specs.Journal.{Journal, keys_of, store_of};
+ghost use Rattle.public_fold.specs.KeyStep.{is_strict};
 ghost use Rattle.store_owner.specs.Deeds.{Deed, deed_refusal, deed_then};
 ghost use Rattle.store_owner.specs.Counted.{root_counted};
 ghost use Rattle.store_owner.specs.Making.{made_with};
@@ -12,7 +13,7 @@ ghost use Rattle.store_owner.specs.Tallied.{CountsOne, counted_in, tally_in, tal
 pub fn tallies_are_those_of_journals()
     ensures made { (keys : List (List ℕ)) → counted_in (made_with keys) ≡ root_counted }
     ensures command { (m : Journal) (d : Deed) (drawn : List (List ℕ)) (old new : OwnerView) → IsOwnerOf m old
-        → deed_refusal (store_of m) d old.file_bytes ≡ None → CountsOne d old new
+        → deed_refusal (is_strict (keys_of m)) (store_of m) d old.file_bytes ≡ None → CountsOne d old new
         → old.tally ≡ counted_in m → new.tally ≡ counted_in (deed_then m old.journal.has_epoch d drawn) }
     ensures tally { (m : Journal) (o : OwnerView) → IsOwnerOf m o → o.tally ≡ counted_in m → tally_in o ≡ tally_of m }
 {}

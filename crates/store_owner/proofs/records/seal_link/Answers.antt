@@ -9,8 +9,8 @@ returns-clause-from_one c =
     let is = c.publish.ensures _ _ (held c.args.ring.now c.head.inside.edge.from has.source) (held c.args.ring.now c.head.inside.edge.to has.target) in
     (link_range c.head.inside.edge c.publish.result _ _ _ has.is_tabled is).0
 
-pub returns-clause-to_nine : goal.returns-clause-to_nine
-returns-clause-to_nine c =
+pub returns-clause-to_eleven : goal.returns-clause-to_eleven
+returns-clause-to_eleven c =
     let has = subst (IsHeld c.args.ring.now) (sym c.head.view_is) c.requires.held in
     let is = c.publish.ensures _ _ (held c.args.ring.now c.head.inside.edge.from has.source) (held c.args.ring.now c.head.inside.edge.to has.target) in
     (link_range c.head.inside.edge c.publish.result _ _ _ has.is_tabled is).1

@@ -3,6 +3,7 @@ use Rattle.cry_base.specs.Requests.{request_of}
 use Rattle.folder_nodes.specs.Targets.{why_of}
 use Rattle.public_fold.specs.Journal.{store_of}
 use Rattle.store_owner.specs.Owned.{OwnerView}
+use Rattle.store_owner.proofs.Measured.{strict_journal}
 use Rattle.store_owner.proofs.Planned.{is_refused}
 use Rattle.store_owner.proofs.Taken.{takes_none}
 use Rattle.store_owner.proofs.owner.Owner.apply.Goals as goal
@@ -11,7 +12,7 @@ pub returns-in-Err-clause-answers : goal.returns-in-Err-clause-answers
 returns-in-Err-clause-answers g c = λ m is.
     let o : OwnerView = c.args.self.now in
     let r = request_of c.args.command.now in
-    (is_refused o m r c.in-Err.why (sym (c.resolved.ensures.cause (store_of m) (c.owners_keep_the_store.ensures m o is)) ∙ ap why_of c.in-Err.is), refl, c.disk_stands_still.ensures.rests o.key m)
+    (is_refused o m r c.in-Err.why (strict_journal m o r o.file_bytes is ∙ sym (c.resolved.ensures.cause (store_of m) (c.owners_keep_the_store.ensures m o is)) ∙ ap why_of c.in-Err.is), refl, c.disk_stands_still.ensures.rests o.key m)
 
 pub returns-then-is_closed-clause-answers : goal.returns-then-is_closed-clause-answers
 returns-then-is_closed-clause-answers g c = λ m is.

@@ -9,6 +9,7 @@ use Rattle.record_format.specs.Sizes.{payload_size}
 use Rattle.record_format.specs.Spelling.{spell_payload}
 use Rattle.record_format.specs.Told.{told_note}
 use Rattle.record_format.proofs.Lengths.{length-spell_payload}
+use Rattle.public_fold.specs.KeyStep.{is_strict}
 use Rattle.public_fold.specs.Standing.{IsSeenAs, stand_of}
 use Rattle.public_fold.specs.declared.heads.Skeleton.{Skeleton}
 use Rattle.journal_bytes.specs.Owning.{IsTreeOf}
@@ -53,7 +54,7 @@ seal_step-payload-requires-clause-can_seal g c =
     let furnished : IsFurnished r old before c.args.room = subst (λ (o : OwnerView). IsFurnished r o before c.args.room) (sym c.self.view_is) c.requires.furnished in
     let own = c.sound_owners_keep_a_store.ensures.store old in
     let sound = (c.self.invariant (ap (λ (o : OwnerView). o.journal.is_closed) c.self.view_is ∙ c.requires.open)).0 in
-    let accepted : deed_refusal (own_store old) r old.file_bytes ≡ None = subst (λ (o : OwnerView). deed_refusal (own_store o) r o.file_bytes ≡ None) (sym c.self.view_is) c.requires.accepted in
+    let accepted : deed_refusal (is_strict old.state.keys) (own_store old) r old.file_bytes ≡ None = subst (λ (o : OwnerView). deed_refusal (is_strict o.state.keys) (own_store o) r o.file_bytes ≡ None) (sym c.self.view_is) c.requires.accepted in
     let fits = fits_for r drawn old before after at drafted keyed c.requires.count c.requires.sizes own c.is_seen.ensures in
     let has : HasBegun i.journal c.begin.new.journal i.counter c.in-Ok.counter (g.D.Disk.shown c.args.disk.now) (g.D.Disk.shown c.begin.new.disk) =
     subst (λ (k : Option Counting). HasBegun i.journal c.begin.new.journal k c.in-Ok.counter (g.D.Disk.shown c.args.disk.now) (g.D.Disk.shown c.begin.new.disk)) c.take.ensures.value c.in-Ok.ensures.begun in
@@ -145,7 +146,7 @@ invariant_of-self-2 g c = λ still.
     let own = c.sound_owners_keep_a_store.ensures.store old in
     let both = c.self.invariant (ap (λ (o : OwnerView). o.journal.is_closed) c.self.view_is ∙ c.requires.open) in
     let sound = both.0 in
-    let accepted : deed_refusal (own_store old) r old.file_bytes ≡ None = subst (λ (o : OwnerView). deed_refusal (own_store o) r o.file_bytes ≡ None) (sym c.self.view_is) c.requires.accepted in
+    let accepted : deed_refusal (is_strict old.state.keys) (own_store old) r old.file_bytes ≡ None = subst (λ (o : OwnerView). deed_refusal (is_strict o.state.keys) (own_store o) r o.file_bytes ≡ None) (sym c.self.view_is) c.requires.accepted in
     let fits = fits_for r drawn old before after at drafted keyed c.requires.count c.requires.sizes own c.is_seen.ensures in
     let has : HasBegun i.journal c.begin.new.journal i.counter c.in-Ok.counter (g.D.Disk.shown c.args.disk.now) (g.D.Disk.shown c.begin.new.disk) =
     subst (λ (k : Option Counting). HasBegun i.journal c.begin.new.journal k c.in-Ok.counter (g.D.Disk.shown c.args.disk.now) (g.D.Disk.shown c.begin.new.disk)) c.take.ensures.value c.in-Ok.ensures.begun in

@@ -19,6 +19,7 @@ use Rattle.store_owner.specs.declared.apply_fault.ApplyFault.TheVariants as faul
 use Rattle.store_owner.specs.declared.owner.Verdict.{Verdict}
 use Rattle.store_owner.specs.declared.owner.Verdict.TheVariants as verdicts
 use Rattle.store_owner.proofs.Applied.{all_ok, carried_answer, reply_due, undrawn_answer}
+use Rattle.store_owner.proofs.Measured.{accepted_journal}
 use Rattle.store_owner.proofs.OtherRoom.{accepted_still, carried_from, handed_from, limit_still, published_from, sound_still, stops_from, store_still, suits_still, interrupted_from}
 use Rattle.std.proofs.lemmas.Result.{on_err_weaker}
 use Rattle.store_owner.proofs.Tallies.{carried_counts}
@@ -76,7 +77,7 @@ returns-clause-answers g c = λ m is.
     let limit : o.journal.limit ≤ most_store_bytes = subst (λ (x : OwnerView). x.journal.limit ≤ most_store_bytes) c.self.view_is c.journal_is_within.ensures.bound in
     let bounded : o.file_bytes ≤ most_file_bytes = subst (λ (x : OwnerView). x.file_bytes ≤ most_file_bytes) c.self.view_is (c.self.invariant (ap (λ (x : OwnerView). x.journal.is_closed) c.self.view_is ∙ c.requires.open)).0.bounded in
     let store = c.owners_keep_the_store.ensures m o is in
-    let refused = c.requires.accepted (store_of m) store in
+    let refused = accepted_journal m o r o.file_bytes is (c.requires.accepted (store_of m) store) in
     let might = g.D.Disk.may_leave c.args.disk.now in
     let may = g.D.Disk.may_leave c.carry_out.new.disk in
     let since = g.D.Disk.since c.carry_out.new.disk (g.D.Disk.moment c.args.disk.now) in

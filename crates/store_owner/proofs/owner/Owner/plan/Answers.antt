@@ -11,6 +11,7 @@ use Rattle.journal_bytes.specs.Sealing.{skeleton_size}
 use Rattle.store_owner.specs.Deeds.{deed_end, deed_of, deed_payload}
 use Rattle.store_owner.specs.Owned.{OwnerView}
 use Rattle.store_owner.specs.Planning.{planned_size}
+use Rattle.store_owner.proofs.Measured.{accepted_journal}
 use Rattle.store_owner.proofs.OtherRoom.{drafted_still}
 use Rattle.store_owner.proofs.Planned.{far_past, is_accepted, is_full, not_within, past_end, size_due, skeleton_due, within_end}
 use Rattle.store_owner.proofs.owner.Owner.plan.Goals as goal
@@ -24,7 +25,7 @@ returns-in-Err-Unfit-clause-answers c =
       refl,
       λ m is.
           let store = c.owners_keep_the_store.ensures m o is in
-          let accepted = c.requires.accepted (store_of m) store in
+          let accepted = accepted_journal m o r o.file_bytes is (c.requires.accepted (store_of m) store) in
           let unfit = c.draft.ensures.unfit (c.in-Err-Unfit.is ∙ ap Err c.in-Err-Unfit.field-0-is) (public_stand m) (store_of m) is.seen store in
           let past = c.commands_are_measured.ensures.fits m r o is bounded c.requires.suits accepted unfit in
           is_full o m r accepted (omega (arith, past, limit)),
@@ -42,7 +43,7 @@ returns-in_default-clause-answers c =
       refl,
       λ m is.
           let store = c.owners_keep_the_store.ensures m o is in
-          let accepted = c.requires.accepted (store_of m) store in
+          let accepted = accepted_journal m o r o.file_bytes is (c.requires.accepted (store_of m) store) in
           let due = size_due m r o change c.in-Ok.ensures.drafted is store (c.commands_are_measured.ensures.payload m r o change.ready.skeleton is accepted (skeleton_due m r o change c.in-Ok.ensures.drafted is store)) in
           let end = c.commands_are_measured.ensures.end m r o is in
           is_full o m r accepted (past_end o (planned_size r change) (deed_payload m r) (deed_end m o.journal.has_epoch r) due end (far_past o _ (planned_size r change) limit size c.in_default.ensures)),
@@ -65,7 +66,7 @@ returns-then-not-fits-clause-answers c =
       refl,
       λ m is.
           let store = c.owners_keep_the_store.ensures m o is in
-          let accepted = c.requires.accepted (store_of m) store in
+          let accepted = accepted_journal m o r o.file_bytes is (c.requires.accepted (store_of m) store) in
           let due = size_due m r o change c.in-Ok.ensures.drafted is store (c.commands_are_measured.ensures.payload m r o change.ready.skeleton is accepted (skeleton_due m r o change c.in-Ok.ensures.drafted is store)) in
           let end = c.commands_are_measured.ensures.end m r o is in
           is_full o m r accepted (past_end o (planned_size r change) (deed_payload m r) (deed_end m o.journal.has_epoch r) due end past),
@@ -97,13 +98,13 @@ returns-clause-answers c =
       },
       λ m is.
           let store = c.owners_keep_the_store.ensures m o is in
-          let accepted = c.requires.accepted (store_of m) store in
+          let accepted = accepted_journal m o r o.file_bytes is (c.requires.accepted (store_of m) store) in
           let due = size_due m r o change c.in-Ok.ensures.drafted is store (c.commands_are_measured.ensures.payload m r o change.ready.skeleton is accepted (skeleton_due m r o change c.in-Ok.ensures.drafted is store)) in
           let end = c.commands_are_measured.ensures.end m r o is in
           is_accepted o m r accepted (within_end o (planned_size r change) (deed_payload m r) (deed_end m o.journal.has_epoch r) due end within),
       λ m is.
           let store = c.owners_keep_the_store.ensures m o is in
-          let accepted = c.requires.accepted (store_of m) store in
+          let accepted = accepted_journal m o r o.file_bytes is (c.requires.accepted (store_of m) store) in
           let due = size_due m r o change c.in-Ok.ensures.drafted is store (c.commands_are_measured.ensures.payload m r o change.ready.skeleton is accepted (skeleton_due m r o change c.in-Ok.ensures.drafted is store)) in
           let end = c.commands_are_measured.ensures.end m r o is in
           let skeleton = skeleton_due m r o change c.in-Ok.ensures.drafted is store in
