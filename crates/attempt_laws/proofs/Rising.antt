@@ -3,7 +3,7 @@ use Rattle.std.proofs.Common.{◌≡◌, ◌<◌, ◌≤◌, ℕ, zero, suc, ◌
 use Rattle.std.specs.Prelude.{nat_lt, slice_index_or}
 use Rattle.std.proofs.lemmas.Bool.{ltb-false}
 use Rattle.cry_base.specs.Limits.{most_file_bytes, most_store_bytes}
-use Rattle.cry_base.specs.Refusing.{refusal_of}
+use Rattle.cry_base.specs.Refusing.{refusal_in}
 use Rattle.cry_base.specs.Requests.{Request}
 use Rattle.cry_base.specs.declared.commands.Refusal.{Refusal}
 use Rattle.cry_base.specs.declared.limits.Limits.{Limits}
@@ -275,10 +275,10 @@ module _ (limits : Limits) (store_low : limits.store_bytes ≤ most_store_bytes)
       let low : deed_end m b d ≤ limits.store_bytes = ltb-false limits.store_bytes (deed_end m b d) fits in omega (arith, low, store_low)
 
   not_refused : (m : Journal) (b : Bool) (d : Deed) → deed_answer limits m b d ≡ None
-      → (deed_refusal (store_of m) d limits.file_bytes ≡ None) × (deed_end m b d ≤ most_store_bytes)
-  unfolding answer upgrade_answer store_of
+      → (deed_refusal (is_strict (keys_of m)) (store_of m) d limits.file_bytes ≡ None) × (deed_end m b d ≤ most_store_bytes)
+  unfolding answer upgrade_answer keys_of store_of
   not_refused m b (Commanded r) fine =
-      let both = answered (refusal_of (stand_after nothing m).store r limits.file_bytes) (nat_lt limits.store_bytes (deed_end m b (Commanded r))) fine in
+      let both = answered (refusal_in (is_strict (stand_after nothing m).keys) (stand_after nothing m).store r limits.file_bytes) (nat_lt limits.store_bytes (deed_end m b (Commanded r))) fine in
       (both.0, ends_low m b (Commanded r) both.1)
   not_refused m b Upgrading fine =
       let both = answered None (nat_lt limits.store_bytes (deed_end m b Upgrading)) fine in

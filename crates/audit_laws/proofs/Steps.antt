@@ -3,7 +3,7 @@ use Rattle.std.proofs.Common.{◌≡◌, ⊎_elim, ℕ, ◌≤◌, true, false, 
 use Rattle.std.proofs.lemmas.Bool.{eqb-true}
 use Rattle.std.proofs.lemmas.List.Elements.{All-cons, All-head, All-nil, All-tail}
 use Rattle.cry_base.specs.Limits.{most_file_bytes}
-use Rattle.cry_base.specs.Refusing.{refusal_of}
+use Rattle.cry_base.specs.Refusing.{refusal_in}
 use Rattle.cry_base.specs.Requests.{Request}
 use Rattle.cry_base.specs.Sets.{In}
 use Rattle.cry_base.specs.Stepping.{effect}
@@ -21,12 +21,12 @@ use Rattle.public_fold.specs.Keyed.{links_of}
 use Rattle.public_fold.specs.Records.{Content, Piece, file_piece, folder_piece, holder_piece, pieces_of}
 use Rattle.public_fold.specs.Valid.{FollowOn, IsNext, IsValid}
 use Rattle.public_fold.proofs.Keeping.{HasTree, journal_tree}
-use Rattle.public_fold.proofs.KeyMoves.{journal_holds, nothing_holds, root_moves, upgrade_moves}
+use Rattle.public_fold.proofs.KeyMoves.{journal_holds, journal_sound, nothing_holds, root_moves, upgrade_moves}
 use Rattle.public_fold.proofs.Prefixes.{prefix_valid, stand_after-append}
 use Rattle.journal_bytes.specs.Keys.{AreWhole, drawn_by}
 use Rattle.journal_bytes.specs.Sealing.{IsSealable}
 use Rattle.journal_bytes.proofs.PlainTexts.{IsPlain, file_form, folder_form, journal_plain}
-use Rattle.journal_bytes.proofs.Sealable.{begun_sound, command_sealable, content_from, fresh_once, pieces_due, step_sealable}
+use Rattle.journal_bytes.proofs.Sealable.{command_sealable, content_from, fresh_once, pieces_due, step_sealable}
 
 -- ---- the forms of texts
 
@@ -131,7 +131,7 @@ unfolding store_of
 did_store before r drawn = ap (λ (z : Stand). z.store) (stand_after-append nothing before (Did r drawn ∷ [])) ∙ one_done (stand_after nothing before) r drawn
 
 did_well : (owner : List ℕ) (before : Journal) (r : Request) (drawn : List (List ℕ)) → IsValid before → IsValid (before ++ Did r drawn ∷ []) → AreWhole owner (before ++ Did r drawn ∷ [])
-    → refusal_of (stand_after nothing before).store r most_file_bytes ≡ None → IsWell (stand_after nothing before) (Did r drawn)
+    → refusal_in (is_strict (stand_after nothing before).keys) (stand_after nothing before).store r most_file_bytes ≡ None → IsWell (stand_after nothing before) (Did r drawn)
 unfolding entry_step
 did_well owner before r drawn valid more whole none =
     let at = stand_after nothing before in
@@ -139,7 +139,7 @@ did_well owner before r drawn valid more whole none =
     let t = effect at.store r (first_key drawn) in
     let tree : HasTree t = subst HasTree (did_store before r drawn) (journal_tree m more) in
     let plain : IsPlain t = subst IsPlain (did_store before r drawn) (journal_plain owner m more whole) in record {
-      sealable = command_sealable before valid r drawn most_file_bytes (unfold store_of in none);
+      sealable = command_sealable before valid r drawn most_file_bytes (unfold store_of keys_of in none);
       forms = step_forms at (note_of at.store r []) t tree plain;
     }
 
@@ -161,7 +161,7 @@ upgraded_well owner before drawn valid more whole =
     let tree : HasTree at.store = subst HasTree (upgraded_store before drawn) (journal_tree m more) in
     let plain : IsPlain at.store = subst IsPlain (upgraded_store before drawn) (journal_plain owner m more whole) in record {
       sealable = step_sealable at.store at.store at.keys (change_of strict at.store Upgrade) (links_of (steps_of before)) (pieces_of Upgrade at.store)
-          (upgrade_moves strict at.store (begun_sound before valid.0)) (unfold store_of keys_of in journal_holds before valid) (fresh_once strict at.store Upgrade) (pieces_due Upgrade at.store);
+          (upgrade_moves strict at.store (unfold store_of in journal_sound before valid)) (unfold store_of keys_of in journal_holds before valid) (fresh_once strict at.store Upgrade) (pieces_due Upgrade at.store);
       forms = step_forms at Upgrade at.store tree plain;
     }
 

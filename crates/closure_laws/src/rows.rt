@@ -4,14 +4,14 @@ ghost use Rattle.cry_base.specs.Requests.Request.{AddHolder, Grant, MakeFolder, 
 ghost use Rattle.cry_base.specs.Texts.{ended_lines};
 ghost use Rattle.role_graph.specs.Rights.Who.{TheOwner, TheHolder};
 ghost use Rattle.public_fold.specs.Journal.{nothing};
-ghost use Rattle.public_fold.specs.Journal.Entry.{Session};
 ghost use Rattle.public_fold.specs.WorkedSteps.{rewriting, granting, revoking, writing_again, renaming_again, moving_away};
-ghost use Rattle.public_fold.specs.WorkedSteps.{does, dropping, fresh, making_again};
+ghost use Rattle.public_fold.specs.WorkedSteps.{does, dropping, granting_file, keeping_file, making_again, moving_file, revoking_file};
 ghost use Rattle.public_fold.specs.WorkedSteps.{departing_after_it, departing_strictly, moving_strictly};
 ghost use Rattle.closure_laws.specs.Gains.{gains_from};
 ghost use Rattle.closure_laws.specs.Invariants.{invariants_hold};
 ghost use Rattle.closure_laws.specs.Secrecy.{keeps_secret};
 ghost use Rattle.closure_laws.specs.Seen.{seen, spell_seen};
+ghost use Rattle.closure_laws.specs.WorkedHistories.{departing_lazily};
 
 /// The owner derives each name and each file as it was ever written.
 #[tactic(auto, unfolding(crate::specs::WorkedHistories::histories))]
@@ -59,9 +59,7 @@ pub fn move_away_from_a_grant()
 /// In a store of version 1 a file that left a folder stays readable for whoever is granted the folder later.
 #[tactic(auto, unfolding(crate::specs::WorkedHistories::histories))]
 pub fn lazy_departure()
-    ensures { spell_seen (seen (fresh ++ (Session ∷ does 5 (MakeFolder (codes "/a")) ∷ does 5 (MakeFolder (codes "/b"))
-        ∷ does 1 (WriteFile (codes "/a/x") (0 ∷ [])) ∷ does 0 (Relocate (codes "/a/x") (codes "/b")) ∷ does 1 AddHolder
-        ∷ does 0 (Grant 1 (codes "/a")) ∷ [])) (TheHolder 1))
+    ensures { spell_seen (seen departing_lazily (TheHolder 1))
         ≡ ended_lines (codes "folder 2 1 " ∷ codes "folder 4 2 a" ∷ codes "file 6 1 x 00" ∷ []) }
 {}
 
@@ -86,6 +84,35 @@ pub fn departure_after_an_upgrade()
         ∷ []) }
 {}
 
+/// A grant on a file opens it, and the names of the folders above it; what stands beside it stays closed.
+#[tactic(auto, unfolding(crate::specs::WorkedHistories::histories))]
+pub fn grant_on_a_file()
+    ensures { spell_seen (seen (granting_file
+        ++ (does 1 (WriteFile (codes "/a/y") (2 ∷ [])) ∷ does 5 (MakeFolder (codes "/a/b")) ∷ [])) (TheHolder 2))
+        ≡ ended_lines (codes "folder 2 1 " ∷ codes "folder 4 2 a" ∷ codes "file 5 1 x 00ff" ∷ []) }
+{}
+
+/// What is written to it after a revocation is opened to those alone who may still read it, by its folder or by a grant of their own.
+#[tactic(auto, unfolding(crate::specs::WorkedHistories::histories))]
+pub fn file_written_after_revocation()
+    ensures of_the_file { spell_seen (seen revoking_file (TheHolder 2))
+        ≡ ended_lines (codes "folder 2 1 " ∷ codes "folder 4 2 a" ∷ codes "file 5 1 x 00ff" ∷ []) }
+    ensures still_in_the_folder { spell_seen (seen revoking_file (TheHolder 1))
+        ≡ ended_lines (codes "folder 2 1 " ∷ codes "folder 4 2 a" ∷ codes "file 5 1 x 00ff" ∷ codes "file 12 1 x 01" ∷ []) }
+    ensures of_the_folder { spell_seen (seen keeping_file (TheHolder 1))
+        ≡ ended_lines (codes "folder 2 1 " ∷ codes "folder 4 2 a" ∷ codes "file 5 1 x 00ff" ∷ []) }
+    ensures still_on_the_file { spell_seen (seen keeping_file (TheHolder 2))
+        ≡ ended_lines (codes "folder 2 1 " ∷ codes "folder 4 2 a" ∷ codes "file 5 1 x 00ff" ∷ codes "file 13 1 x 01" ∷ []) }
+{}
+
+/// A file that left its folder with a grant on it is closed to whoever is granted the folder later.
+#[tactic(auto, unfolding(crate::specs::WorkedHistories::histories))]
+pub fn granted_file_departs()
+    ensures { spell_seen (seen (granting_file
+        ++ (does 6 (Relocate (codes "/a/x") (codes "/")) ∷ does 1 AddHolder ∷ does 0 (Grant 3 (codes "/a")) ∷ [])) (TheHolder 3))
+        ≡ ended_lines (codes "folder 2 1 " ∷ codes "folder 4 2 a" ∷ []) }
+{}
+
 /// A grant is a gain for its holder alone, and so is a move into what is granted; a new folder there is none.
 #[tactic(auto, unfolding(crate::specs::WorkedHistories::histories))]
 pub fn gains_of_a_grant()
@@ -94,6 +121,8 @@ pub fn gains_of_a_grant()
     ensures moved { gains_from nothing (granting
         ++ (does 5 (MakeFolder (codes "/a/c")) ∷ does 5 (MakeFolder (codes "/b")) ∷ does 0 (Relocate (codes "/b") (codes "/a")) ∷ [])) 1
         ≡ false ∷ false ∷ false ∷ false ∷ false ∷ false ∷ true ∷ false ∷ false ∷ true ∷ [] }
+    ensures of_a_file { gains_from nothing granting_file 2
+        ≡ false ∷ false ∷ false ∷ false ∷ false ∷ false ∷ false ∷ false ∷ false ∷ true ∷ [] }
 {}
 
 /// On the worked journals nothing is derived that was written while it wasn't shown, unless the holder gained something
@@ -108,6 +137,9 @@ pub fn worked_journals_keep_secrets()
         ++ (does 5 (MakeFolder (codes "/b")) ∷ does 0 (Relocate (codes "/b") (codes "/a")) ∷ []))) (1 ∷ []) ≡ true ∷ [] }
     ensures moved_strictly { map (keeps_secret moving_strictly) (1 ∷ []) ≡ true ∷ [] }
     ensures upgraded { map (keeps_secret departing_after_it) (1 ∷ []) ≡ true ∷ [] }
+    ensures file_revoked { map (keeps_secret revoking_file) (1 ∷ 2 ∷ []) ≡ true ∷ true ∷ [] }
+    ensures folder_revoked { map (keeps_secret keeping_file) (1 ∷ 2 ∷ []) ≡ true ∷ true ∷ [] }
+    ensures file_moved { map (keeps_secret moving_file) (1 ∷ 2 ∷ []) ≡ true ∷ true ∷ [] }
 {}
 
 /// After each entry of the worked journals what is dirty is so with all behind it, each edge has a link between present
@@ -117,4 +149,5 @@ pub fn worked_journals_keep_their_keys()
     ensures lazy { map invariants_hold (rewriting ∷ writing_again ∷ renaming_again ∷ moving_away ∷ making_again ∷ dropping ∷ [])
         ≡ true ∷ true ∷ true ∷ true ∷ true ∷ true ∷ [] }
     ensures strict { map invariants_hold (moving_strictly ∷ departing_strictly ∷ departing_after_it ∷ []) ≡ true ∷ true ∷ true ∷ [] }
+    ensures on_files { map invariants_hold (revoking_file ∷ keeping_file ∷ moving_file ∷ []) ≡ true ∷ true ∷ true ∷ [] }
 {}

@@ -18,26 +18,25 @@ use Rattle.log_visits.specs.Folding.{folded}
 use Rattle.log_visits.specs.Judging.{Failure, OfBytes, Unseen, bundle_log, first_key, holder_reads, may_read, of_bytes, opened_first, published_check, read_through, read_with, shown_with, then_on, view_with, who_of}
 use Rattle.log_visits.specs.View.{Line, file_line, folder_line, line_path, view}
 use Rattle.log_visits.specs.Visiting.{Opened, Reading, visit_all}
-use Rattle.log_visits.specs.Visits.{Visit, all_visits, allowed_visits, entry_visits, file_visits, files_that, folders_that, lower_visits, name_visits, upper_visits, visits_to_names}
+use Rattle.log_visits.specs.Visits.{Visit, all_visits, allowed_visits, entry_visits, file_visits, files_that, folders_that, into_file, lower_visits, name_visits, upper_visits, visits_to_names}
 use Rattle.log_visits.specs.Visits.Visit.{ToKey, ToName, ToFile}
 use Rattle.log_visits.proofs.Viewing.{view_told}
 use Rattle.journal_bytes.specs.Keys.{AreWhole}
 use Rattle.journal_bytes.proofs.OpenedKeys.{same_ok, then_told}
 use Rattle.journal_bytes.proofs.OpenedTexts.{unseen as nothing_seen}
-use Rattle.move_plan.specs.Change.{folder_of_file}
 use Rattle.move_plan.specs.Fitting.{public_of}
 use Rattle.public_fold.specs.Journal.{Journal, Stand, nothing}
 use Rattle.public_fold.specs.Valid.{IsValid}
-use Rattle.role_graph.specs.Edges.{edge, file_edge}
-use Rattle.role_graph.specs.Rights.{Who, allowed_to, named_to}
+use Rattle.role_graph.specs.Edges.{edge}
+use Rattle.role_graph.specs.Rights.{Who, file_allowed_to, named_to}
 use Rattle.role_graph.specs.RightsByReach.{HasFolder}
 use Rattle.role_graph.specs.Roles.{back_of, data_of}
 use Rattle.role_graph.proofs.Edging.{In-order}
-use Rattle.role_graph.proofs.Granting.{allowed_to_told, named_to_told}
+use Rattle.role_graph.proofs.Granting.{file_allowed_to_told, named_to_told}
 use Rattle.reader_laws.proofs.Readable.{fold_shape}
-use Rattle.reader_laws.proofs.Readers.{allowed_public}
-use Rattle.reader_laws.proofs.Seen.{named_seen}
-use Rattle.log_visits.proofs.Rights.{HasShape, allowed_is_named, named_above, passes}
+use Rattle.reader_laws.proofs.Readers.{file_allowed_public}
+use Rattle.reader_laws.proofs.Seen.{folder_is_named, named_seen}
+use Rattle.log_visits.proofs.Rights.{HasShape, named_above, passes}
 use Rattle.forgery_laws.specs.Written.{AreBytes, AreWrittenLines, HasForged, HasKeyOf, IsWrittenLine, WereNamed}
 use Rattle.forgery_laws.proofs.Authentic.{AreRecords, log_records}
 use Rattle.forgery_laws.proofs.Visited.{IsSound, folders_stay, one_key_first, visits_sound}
@@ -108,17 +107,17 @@ file_listed s test e i t =
     (In-order ℕ nat_lt e.id (map (λ (d : FileEntry). d.id) (filter test s.files))).1
     ((In-map FileEntry ℕ (λ d. d.id) e.id (filter test s.files)).1 (e, filter-In FileEntry test e s.files i t, refl))
 
-file_visited : (s : Store) (xs : List ℕ) (x : ℕ) → In x xs → In (ToFile x) (file_visits s xs)
+file_visited : (s : Store) (who : Who) (xs : List ℕ) (x : ℕ) → In x xs → In (ToFile x) (file_visits s who xs)
 unfolding file_visits
-file_visited s xs x i = (In-flat_map ℕ Visit (λ n. ToKey (file_edge (folder_of_file s n) n) ∷ ToFile n ∷ []) (ToFile x) xs).1 (x, i, inr (inl refl))
+file_visited s who xs x i = (In-flat_map ℕ Visit (λ n. ToKey (into_file s who n) ∷ ToFile n ∷ []) (ToFile x) xs).1 (x, i, inr (inl refl))
 
 -- visits of files are of no folder's name
-no_names_of : (s : Store) (xs : List ℕ) (v : Visit) → In v (file_visits s xs) → (f : ℕ) → v ≡ ToName f → ⊥
+no_names_of : (s : Store) (who : Who) (xs : List ℕ) (v : Visit) → In v (file_visits s who xs) → (f : ℕ) → v ≡ ToName f → ⊥
 unfolding file_visits
-no_names_of s xs v i f is =
-    let w = (In-flat_map ℕ Visit (λ n. ToKey (file_edge (folder_of_file s n) n) ∷ ToFile n ∷ []) v xs).0 i in
+no_names_of s who xs v i f is =
+    let w = (In-flat_map ℕ Visit (λ n. ToKey (into_file s who n) ∷ ToFile n ∷ []) v xs).0 i in
     ⊎_elim
-    (λ (e : v ≡ ToKey (file_edge (folder_of_file s w.0) w.0)). let wrong : ToKey (file_edge (folder_of_file s w.0) w.0) ≡ ToName f = sym e ∙ is in absurd cc)
+    (λ (e : v ≡ ToKey (into_file s who w.0)). let wrong : ToKey (into_file s who w.0) ≡ ToName f = sym e ∙ is in absurd cc)
     (λ u. ⊎_elim (λ (e : v ≡ ToFile w.0). let wrong : ToFile w.0 ≡ ToName f = sym e ∙ is in absurd cc) (λ n. absurd n) u)
     w.2
 
@@ -146,18 +145,21 @@ named_public s who f = ap (λ (z : Store). named_to z who f) (nothing_seen s) �
 named_alike : (s t : Store) (who : Who) (f : ℕ) → public_of s ≡ public_of t → named_to s who f ≡ named_to t who f
 named_alike s t who f same = sym (named_public s who f) ∙ ap (λ z. named_to z who f) same ∙ named_public t who f
 
-allowed_alike : (s t : Store) (who : Who) (f : ℕ) → public_of s ≡ public_of t → allowed_to s who f ≡ allowed_to t who f
-allowed_alike s t who f same = sym (allowed_public s who f) ∙ ap (λ z. allowed_to z who f) same ∙ allowed_public t who f
+file_allowed_alike : (s t : Store) (who : Who) (e d : FileEntry) → public_of s ≡ public_of t → e.id ≡ d.id → e.folder ≡ d.folder → file_allowed_to s who e ≡ file_allowed_to t who d
+file_allowed_alike s t who e d same id folder =
+    sym (file_allowed_public s who e)
+    ∙ (λ i. file_allowed_to (same i) who (record { id = id i; folder = folder i; name = []; bytes = [] }))
+    ∙ file_allowed_public t who d
 
 folder_path : (s t : Store) (f : ℕ) → s.folders ≡ t.folders → path_of s (folder_node f) ≡ path_of t (folder_node f)
 unfolding path_of node_names folder_node folder_names way_to_root
 folder_path s t f same = λ i. spell_path (drop 1 (backwards (map (λ (e : FolderEntry). e.name) (way_up (length (same i)) (same i) f))))
 
-beside_alike : (s t : Store) (who : Who) (path : List ℕ) (e d : FileEntry) → s.folders ≡ t.folders → public_of s ≡ public_of t → e.folder ≡ d.folder → is_beside s who path e ≡ is_beside t who path d
+beside_alike : (s t : Store) (who : Who) (path : List ℕ) (e d : FileEntry) → s.folders ≡ t.folders → public_of s ≡ public_of t → e.id ≡ d.id → e.folder ≡ d.folder → is_beside s who path e ≡ is_beside t who path d
 unfolding is_beside
-beside_alike s t who path e d folders same folder =
-    ap (λ f. is_path path && (allowed_to s who f && bytes_eq (path_of s (folder_node f)) (parent_path path))) folder
-    ∙ (λ i. is_path path && (allowed_alike s t who d.folder same i && bytes_eq (folder_path s t d.folder folders i) (parent_path path)))
+beside_alike s t who path e d folders same id folder =
+    ap (λ f. is_path path && (file_allowed_to s who e && bytes_eq (path_of s (folder_node f)) (parent_path path))) folder
+    ∙ (λ i. is_path path && (file_allowed_alike s t who e d same id folder i && bytes_eq (folder_path s t d.folder folders i) (parent_path path)))
 
 -- ---- the lines of what was opened
 
@@ -209,9 +211,9 @@ module _ (owner : List ℕ) (m : Journal) (valid : IsValid m) (whole : AreWhole 
     pub folder_written : (e : FolderEntry) → In e s.folders → named_to s who e.id ≡ true → IsWrittenLine m s who (folder_line s who e)
     folder_written e i t = inl (e, i, refl, way_named e.id (sym (named_alike s bare who e.id sound.tree) ∙ t))
 
-    pub file_written : (e : FileEntry) → In e s.files → allowed_to s who e.folder ≡ true → visited (ToFile e.id) → IsWrittenLine m s who (file_line s e)
+    pub file_written : (e : FileEntry) → In e s.files → file_allowed_to s who e ≡ true → visited (ToFile e.id) → IsWrittenLine m s who (file_line s e)
     file_written e i t seen =
-        inr (e, i, refl, way_named e.folder (allowed_is_named bare who e.folder (sym (allowed_alike s bare who e.folder sound.tree) ∙ t)), sound.files e i seen)
+        inr (e, i, refl, way_named e.folder (sym (named_alike s bare who e.folder sound.tree) ∙ folder_is_named s who e i t), sound.files e i seen)
 
   -- ---- nothing is visited yet
 
@@ -234,22 +236,22 @@ module _ (owner : List ℕ) (m : Journal) (valid : IsValid m) (whole : AreWhole 
 
   all_names : NamesVisited (Visited (all_visits bare who) no_visit)
   unfolding all_visits
-  all_names f has t = inl (in_left (ToName f) (visits_to_names bare who) (file_visits bare (files_that (λ e. allowed_to bare who e.folder) bare)) (name_visited bare who f has t))
+  all_names f has t = inl (in_left (ToName f) (visits_to_names bare who) (file_visits bare who (files_that (file_allowed_to bare who) bare)) (name_visited bare who f has t))
 
-  all_file : (s : Store) → public_of s ≡ public_of bare → (e : FileEntry) → In e s.files → allowed_to s who e.folder ≡ true → In (ToFile e.id) (all_visits bare who)
+  all_file : (s : Store) → public_of s ≡ public_of bare → (e : FileEntry) → In e s.files → file_allowed_to s who e ≡ true → In (ToFile e.id) (all_visits bare who)
   unfolding all_visits
   all_file s tree e i t =
-      let test : FileEntry → Bool = λ d. allowed_to bare who d.folder in
+      let test : FileEntry → Bool = file_allowed_to bare who in
       let d = file_there s bare tree e i in
-      let passes_it : test d.0 ≡ true = ap (allowed_to bare who) d.3 ∙ sym (allowed_alike s bare who e.folder tree) ∙ t in
-      subst (λ n. In (ToFile n) (visits_to_names bare who ++ file_visits bare (files_that test bare))) d.2
-      (in_right (ToFile d.0.id) (visits_to_names bare who) (file_visits bare (files_that test bare)) (file_visited bare (files_that test bare) d.0.id (file_listed bare test d.0 d.1 passes_it)))
+      let passes_it : test d.0 ≡ true = sym (file_allowed_alike s bare who e d.0 tree (sym d.2) (sym d.3)) ∙ t in
+      subst (λ n. In (ToFile n) (visits_to_names bare who ++ file_visits bare who (files_that test bare))) d.2
+      (in_right (ToFile d.0.id) (visits_to_names bare who) (file_visits bare who (files_that test bare)) (file_visited bare who (files_that test bare) d.0.id (file_listed bare test d.0 d.1 passes_it)))
 
   lines_written : (o : Opened) → Sound (Visited (all_visits bare who) no_visit) o → (l : Line) → In l (view o.store who) → IsWrittenLine m o.store who l
   lines_written o sound l i = ⊎_elim
       (λ a. subst (IsWrittenLine m o.store who) (sym a.3)
       (folder_written (Visited (all_visits bare who) no_visit) o sound all_names a.0 a.1 ((named_to_told o.store who a.0.id).1 a.2)))
-      (λ b. let t = (allowed_to_told o.store who b.0.folder).1 b.2 in
+      (λ b. let t = (file_allowed_to_told o.store who b.0).1 b.2 in
       subst (IsWrittenLine m o.store who) (sym b.3)
       (file_written (Visited (all_visits bare who) no_visit) o sound all_names b.0 b.1 t (inl (all_file o.store sound.tree b.0 b.1 t))))
       ((view_told o.store who l).0 i)
@@ -283,27 +285,27 @@ module _ (owner : List ℕ) (m : Journal) (valid : IsValid m) (whole : AreWhole 
       let told = In-filter FolderEntry (λ e. named_to o.store who e.id) w.0 o.store.folders w.1 in
       subst (IsWrittenLine m o.store who) (sym w.2) (folder_written Named o sound names_named w.0 told.0 told.1)
 
-  beside_allowed : (s : Store) (path : List ℕ) (e : FileEntry) → is_beside s who path e ≡ true → allowed_to s who e.folder ≡ true
+  beside_allowed : (s : Store) (path : List ℕ) (e : FileEntry) → is_beside s who path e ≡ true → file_allowed_to s who e ≡ true
   unfolding is_beside
   beside_allowed s path e t =
-      (and_parts (allowed_to s who e.folder) (bytes_eq (path_of s (folder_node e.folder)) (parent_path path)) (and_parts (is_path path) (allowed_to s who e.folder && bytes_eq (path_of s (folder_node e.folder)) (parent_path path)) t).1).0
+      (and_parts (file_allowed_to s who e) (bytes_eq (path_of s (folder_node e.folder)) (parent_path path)) (and_parts (is_path path) (file_allowed_to s who e && bytes_eq (path_of s (folder_node e.folder)) (parent_path path)) t).1).0
 
   -- the files beside a path, once the names are visited
-  module _ (path : List ℕ) (o after : Opened) (first : Sound Named o) (done : visit_all r (file_visits bare (files_that (is_beside o.store who path) o.store)) o ≡ Ok after) where
+  module _ (path : List ℕ) (o after : Opened) (first : Sound Named o) (done : visit_all r (file_visits bare who (files_that (is_beside o.store who path) o.store)) o ≡ Ok after) where
     abbrev files : List Visit
-    files = file_visits bare (files_that (is_beside o.store who path) o.store)
+    files = file_visits bare who (files_that (is_beside o.store who path) o.store)
 
     abbrev All : Visit → Type 0
     All = Visited files Named
 
     same_folders : after.store.folders ≡ o.store.folders
-    same_folders = folders_stay r files o after (no_names_of bare (files_that (is_beside o.store who path) o.store)) done
+    same_folders = folders_stay r files o after (no_names_of bare who (files_that (is_beside o.store who path) o.store)) done
 
     listed : Sound All after → (e : FileEntry) → In e after.store.files → is_beside after.store who path e ≡ true → All (ToFile e.id)
     listed sound e i t =
         let d = file_there after.store o.store (sound.tree ∙ sym first.tree) e i in
-        let there : is_beside o.store who path d.0 ≡ true = sym (beside_alike after.store o.store who path e d.0 same_folders (sound.tree ∙ sym first.tree) (sym d.3)) ∙ t in
-        inl (subst (λ n. In (ToFile n) files) d.2 (file_visited bare (files_that (is_beside o.store who path) o.store) d.0.id (file_listed o.store (is_beside o.store who path) d.0 d.1 there)))
+        let there : is_beside o.store who path d.0 ≡ true = sym (beside_alike after.store o.store who path e d.0 same_folders (sound.tree ∙ sym first.tree) (sym d.2) (sym d.3)) ∙ t in
+        inl (subst (λ n. In (ToFile n) files) d.2 (file_visited bare who (files_that (is_beside o.store who path) o.store) d.0.id (file_listed o.store (is_beside o.store who path) d.0 d.1 there)))
 
     beside_written : Sound All after → (l : Line) → In l (lines_beside after.store who path) → IsWrittenLine m after.store who l
     unfolding lines_beside
@@ -338,16 +340,16 @@ module _ (owner : List ℕ) (m : Journal) (valid : IsValid m) (whole : AreWhole 
       chosen (OneWritten line ⊎ HasForged owner m bytes) (line_at path (folder_lines o.store who)) (file_with r o who path) line w.2
       (λ found. inl (o.store, sound.tree, folder_line_written o sound line (some_line path (folder_lines o.store who) line found)))
       (λ next.
-      let v = on_told Opened Line (of_bytes (visit_all r (file_visits bare xs) o)) (λ after. or_else (line_at path (lines_beside after.store who path)) (Err Unseen)) line next in
+      let v = on_told Opened Line (of_bytes (visit_all r (file_visits bare who xs) o)) (λ after. or_else (line_at path (lines_beside after.store who path)) (Err Unseen)) line next in
       let after : Opened = v.0 in
-      let last = bytes_told Opened (visit_all r (file_visits bare xs) o) after v.1 in
+      let last = bytes_told Opened (visit_all r (file_visits bare who xs) o) after v.1 in
       ⊎_elim
-      (λ (all : Sound (Visited (file_visits bare xs) Named) after).
+      (λ (all : Sound (Visited (file_visits bare who xs) Named) after).
       chosen (OneWritten line ⊎ HasForged owner m bytes) (line_at path (lines_beside after.store who path)) (Err Unseen) line v.2
       (λ found. inl (after.store, all.tree, beside_written path o after sound last all line (some_line path (lines_beside after.store who path) line found)))
       (λ none. absurd (unseen line none)))
       (λ forged. inr forged)
-      (visits_sound owner m valid whole bytes r are (file_visits bare xs) Named o after sound last)))
+      (visits_sound owner m valid whole bytes r are (file_visits bare who xs) Named o after sound last)))
       (λ forged. inr forged)
       (visits_sound owner m valid whole bytes r are names no_visit (opened_first bundle r) o (first_sound has) (bytes_told Opened (visit_all r names (opened_first bundle r)) o w.1))
 

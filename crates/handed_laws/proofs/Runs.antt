@@ -6,7 +6,7 @@ use Rattle.std.proofs.lemmas.List.Elements.{All-cons, All-head, All-nil, All-tai
 use Rattle.commit_journal.specs.Holding.{IsPrefix}
 use Rattle.commit_journal.proofs.KeptLemmas.{prefix_same, prefix_trans}
 use Rattle.cry_base.specs.Limits.{most_file_bytes, most_store_bytes}
-use Rattle.cry_base.specs.Refusing.{refusal_of}
+use Rattle.cry_base.specs.Refusing.{refusal_in}
 use Rattle.cry_base.specs.Requests.{Request}
 use Rattle.cry_base.specs.declared.commands.Refusal.{Refusal}
 use Rattle.cli_base.specs.Lines.{InputLine}
@@ -16,8 +16,9 @@ use Rattle.cli_sessions.specs.Sessions.{Ends, HasRun, IsUnopened, LeavesAt, RanC
 use Rattle.journal_bytes.specs.Keys.{AreWhole, drawn_by}
 use Rattle.journal_bytes.specs.Script.{answer, answer_with, due_end, journal_then, opened, script_going}
 use Rattle.journal_bytes.proofs.NextValid.{next_valid, next_whole}
-use Rattle.public_fold.specs.Journal.{Entry, Journal, nothing, stand_after, store_of}
+use Rattle.public_fold.specs.Journal.{Entry, Journal, keys_of, nothing, stand_after, store_of}
 use Rattle.public_fold.specs.Journal.Entry.{Did, Made, Session, Upgraded}
+use Rattle.public_fold.specs.KeyStep.{is_strict}
 use Rattle.public_fold.specs.Valid.{BeginsWell, IsValid}
 use Rattle.public_fold.proofs.Prefixes.{prefix_valid}
 use Rattle.store_owner.specs.Drawing.{joined}
@@ -60,10 +61,11 @@ accepted (Some why) full is = absurd (let no : ⊥ = cc in no)
 accepted None true is = absurd (let no : ⊥ = cc in no)
 accepted None false is = (refl, refl)
 
-pub not_refused : (m : Journal) (b : Bool) (r : Request) → answer version_limits m b r ≡ None → (refusal_of (store_of m) r most_file_bytes ≡ None) × (due_end m b r ≤ most_store_bytes)
-unfolding answer store_of
+pub not_refused : (m : Journal) (b : Bool) (r : Request) → answer version_limits m b r ≡ None
+    → (refusal_in (is_strict (keys_of m)) (store_of m) r most_file_bytes ≡ None) × (due_end m b r ≤ most_store_bytes)
+unfolding answer keys_of store_of
 not_refused m b r is =
-    let both = accepted (refusal_of (stand_after nothing m).store r most_file_bytes) (nat_lt most_store_bytes (due_end m b r)) is in
+    let both = accepted (refusal_in (is_strict (stand_after nothing m).keys) (stand_after nothing m).store r most_file_bytes) (nat_lt most_store_bytes (due_end m b r)) is in
     (both.0, ltb-false most_store_bytes (due_end m b r) both.1)
 
 -- ---- one run

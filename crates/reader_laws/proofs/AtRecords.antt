@@ -5,6 +5,7 @@ use Rattle.std.specs.Str.{bytes_eq}
 use Rattle.chacha_seal.specs.Sealing.{seal_tag, sealed}
 use Rattle.commit_journal.specs.Answering.{Fault, Damaged, Tampered, and_then}
 use Rattle.commit_journal.specs.Placed.{PlainPlaced}
+use Rattle.cry_base.specs.Clearances.{clear_number}
 use Rattle.cry_base.specs.Sets.{In}
 use Rattle.cry_base.specs.Stepping.{with_folder}
 use Rattle.cry_base.specs.Store.{HolderEntry}
@@ -12,29 +13,30 @@ use Rattle.cry_base.specs.declared.client.Bundle.{Bundle}
 use Rattle.cry_base.specs.declared.roles.Edge.{Edge}
 use Rattle.cry_base.specs.declared.roles.Role.{Role}
 use Rattle.cry_base.specs.declared.roles.Role.TheVariants.{Owner}
-use Rattle.cry_base.proofs.Members.{In-map}
+use Rattle.cry_base.proofs.Members.{In-append, In-map}
 use Rattle.log_visits.specs.Folding.{folded}
 use Rattle.log_visits.specs.Judging.{opened_first, who_of}
+use Rattle.log_visits.specs.Opening.{IsToStanding}
 use Rattle.log_visits.specs.Placing.{PlacedContent, PlacedLink, content_for, is_for_edge, last_one, link_for, log_contents, log_links}
 use Rattle.log_visits.specs.Verdict.{open_content, open_link}
 use Rattle.log_visits.specs.Visiting.{Opened, Reading, is_file_text, is_folder_text, key_of, needed, visit, visit_all, visit_edge, visit_text, with_holder_key, with_key, with_name_at, with_parts, with_text_at}
-use Rattle.log_visits.specs.Visits.{Visit, all_visits, file_visits, holder_visits, visits_to_names}
+use Rattle.log_visits.specs.Visits.{Visit, all_visits, clearance_visits, file_visits, files_that, holder_visits, visits_to_names, writing_visits}
 use Rattle.log_visits.specs.Visits.Visit.{ToKey, ToName, ToFile, ToHolder}
 use Rattle.log_visits.proofs.FoldedHolds.{each_edge_found}
 use Rattle.log_visits.proofs.Following.{link_decides, the_one}
 use Rattle.record_format.specs.Spelling.{content_head, link_head}
-use Rattle.role_graph.specs.Edges.{IsEdge, in_order}
+use Rattle.role_graph.specs.Edges.{IsEdge, edge, has_grants, in_order}
 use Rattle.role_graph.specs.Rights.Who.{TheOwner}
-use Rattle.role_graph.specs.Roles.{data_of, file_role}
-use Rattle.role_graph.proofs.Edging.{In-order, edges_told}
-use Rattle.role_graph.proofs.Granting.{allowed_to_told}
+use Rattle.role_graph.specs.Roles.{clear_of, data_of, file_role}
+use Rattle.role_graph.proofs.Edging.{edges_told}
+use Rattle.role_graph.proofs.Granting.{file_allowed_to_told}
 use Rattle.public_fold.specs.Journal.{Stand, nothing}
 use Rattle.journal_bytes.proofs.OwnerVisits.{all_stay, edge_open, new_open}
 use Rattle.reader_laws.specs.Failing.{IsOfRecord}
 use Rattle.reader_laws.specs.Reading.{AreAllowed}
 use Rattle.log_visits.proofs.Ordered.{AreOrdered, CanVisit, LeadsTo, OneLeadsTo, can_more, ordered_both}
-use Rattle.reader_laws.proofs.Readable.{fold_shape}
-use Rattle.log_visits.proofs.ReaderVisits.{AreFilesIn, AtFirst, Named, all_ordered, files_ordered, names_ordered}
+use Rattle.reader_laws.proofs.Readable.{fold_shape, fold_stands}
+use Rattle.log_visits.proofs.ReaderVisits.{AreFilesIn, AtFirst, Named, all_ordered, files_ordered, names_ordered, owners_stand}
 use Rattle.reader_laws.proofs.Readers.{first_open}
 use Rattle.log_visits.proofs.Rights.{HasShape}
 use Rattle.reader_laws.proofs.Written.{HasTexts, each_text_found}
@@ -181,27 +183,38 @@ module _ (log : List PlainPlaced) (stand : Stand) (folds : folded nothing log �
       (λ w. subst (λ z. IsSome (key_of named.keys z)) w.2 (edge_open reading (visits_to_names stand.store (who_of bundle)) (opened_first bundle reading) named w.0 done w.1))
 
   pub files_fault : (bundle : Bundle) (xs : List ℕ) (named : Opened) (fault : Fault) → AreAllowed stand.store (who_of bundle) xs
-      → visit_all reading (visits_to_names stand.store (who_of bundle)) (opened_first bundle reading) ≡ Ok named → visit_all reading (file_visits stand.store xs) named ≡ Err fault → IsOfRecord log fault
+      → visit_all reading (visits_to_names stand.store (who_of bundle)) (opened_first bundle reading) ≡ Ok named → visit_all reading (file_visits stand.store (who_of bundle) xs) named ≡ Err fault → IsOfRecord log fault
   files_fault bundle xs named fault are done failed =
-      let within : AreFilesIn stand.store (who_of bundle) xs = λ x i. let w = are x i in (w.0, w.1, w.2, (allowed_to_told stand.store (who_of bundle) w.0.folder).1 w.3) in
-      ordered_fault (file_visits stand.store xs) (Named stand.store (who_of bundle) shape) named fault (named_open bundle named done) (files_ordered stand.store (who_of bundle) shape xs within) failed
+      let within : AreFilesIn stand.store (who_of bundle) xs = λ x i. let w = are x i in (w.0, w.1, w.2, (file_allowed_to_told stand.store (who_of bundle) w.0).1 w.3) in
+      ordered_fault (file_visits stand.store (who_of bundle) xs) (Named stand.store (who_of bundle) shape) named fault (named_open bundle named done) (files_ordered stand.store (who_of bundle) shape xs within) failed
 
-  -- the owner who opens for writing visits the holders' keys too
-  holders_ordered : (is_open : Role → Type 0) → is_open Owner → (hs : List ℕ) → ((h : ℕ) → In h hs → (e : HolderEntry) × In e stand.store.holders × (e.number ≡ h)) → AreOrdered stand.store is_open (map ToHolder hs)
-  holders_ordered is_open has [] stands = tt
-  holders_ordered is_open has (h ∷ hs) stands = ((stands h (inl refl), has), holders_ordered (λ role. is_open role ⊎ LeadsTo (ToHolder h) role) (inl has) hs (λ k i. stands k (inr i)))
+  -- visits of which each has its key from before
+  each_ordered : (is_open : Role → Type 0) (vs : List Visit) → ((v : Visit) → In v vs → CanVisit stand.store is_open v) → AreOrdered stand.store is_open vs
+  each_ordered is_open [] can = tt
+  each_ordered is_open (v ∷ vs) can =
+      let now : Role → Type 0 = λ role. is_open role ⊎ LeadsTo v role in
+      (can v (inl refl), each_ordered now vs (λ w i. can_more stand.store is_open now (λ role p. inl p) w (can w (inr i))))
 
-  numbers_stand : (h : ℕ) → In h (in_order nat_lt (map (λ (e : HolderEntry). e.number) stand.store.holders)) → (e : HolderEntry) × In e stand.store.holders × (e.number ≡ h)
-  numbers_stand h i =
-      let w = (In-map HolderEntry ℕ (λ e. e.number) h stand.store.holders).0 ((In-order ℕ nat_lt h (map (λ (e : HolderEntry). e.number) stand.store.holders)).0 i) in (w.0, w.1, sym w.2)
+  -- the owner who opens for writing visits the holders' keys too, and the Clearances of files
+  writing_can : (is_open : Role → Type 0) → is_open Owner → (v : Visit) → In v (writing_visits stand.store) → CanVisit stand.store is_open v
+  unfolding writing_visits holder_visits clearance_visits edge
+  writing_can is_open has v i =
+      let stands : IsToStanding stand.store v = owners_stand stand.store (fold_stands log stand folds) v ((In-append Visit v (all_visits stand.store TheOwner) (writing_visits stand.store)).1 (inr i)) in
+      let clearance : ℕ → Visit = λ x. ToKey (edge 1 Owner (clear_of (clear_number x))) in
+      ⊎_elim
+      (λ j. let w = (In-map ℕ Visit ToHolder v (in_order nat_lt (map (λ (e : HolderEntry). e.number) stand.store.holders))).0 j in
+      subst (CanVisit stand.store is_open) (sym w.2) (subst (IsToStanding stand.store) w.2 stands, has))
+      (λ j. let w = (In-map ℕ Visit clearance v (files_that (λ e. has_grants stand.store (clear_number e.id)) stand.store)).0 j in
+      subst (CanVisit stand.store is_open) (sym w.2) (subst (IsToStanding stand.store) w.2 stands, has))
+      ((In-append Visit v (holder_visits stand.store) (clearance_visits stand.store)).0 i)
 
-  owner_ordered : AreOrdered stand.store (AtFirst TheOwner) (all_visits stand.store TheOwner ++ holder_visits stand.store)
-  unfolding holder_visits
+  owner_ordered : AreOrdered stand.store (AtFirst TheOwner) (all_visits stand.store TheOwner ++ writing_visits stand.store)
   owner_ordered =
-      ordered_both stand.store (AtFirst TheOwner) (all_visits stand.store TheOwner) (map ToHolder (in_order nat_lt (map (λ (e : HolderEntry). e.number) stand.store.holders))) (all_ordered stand.store TheOwner shape)
-      (holders_ordered (λ role. AtFirst TheOwner role ⊎ OneLeadsTo (all_visits stand.store TheOwner) role) (inl refl) (in_order nat_lt (map (λ (e : HolderEntry). e.number) stand.store.holders)) numbers_stand)
+      let now : Role → Type 0 = λ role. AtFirst TheOwner role ⊎ OneLeadsTo (all_visits stand.store TheOwner) role in
+      ordered_both stand.store (AtFirst TheOwner) (all_visits stand.store TheOwner) (writing_visits stand.store) (all_ordered stand.store TheOwner shape)
+      (each_ordered now (writing_visits stand.store) (writing_can now (inl refl)))
 
-  pub owner_fault : (key : List ℕ) (fault : Fault) → visit_all reading (all_visits stand.store TheOwner ++ holder_visits stand.store) (record { keys = (Owner, key) ∷ []; store = stand.store }) ≡ Err fault → IsOfRecord log fault
+  pub owner_fault : (key : List ℕ) (fault : Fault) → visit_all reading (all_visits stand.store TheOwner ++ writing_visits stand.store) (record { keys = (Owner, key) ∷ []; store = stand.store }) ≡ Err fault → IsOfRecord log fault
   owner_fault key fault failed =
-      ordered_fault (all_visits stand.store TheOwner ++ holder_visits stand.store) (AtFirst TheOwner) (record { keys = (Owner, key) ∷ []; store = stand.store }) fault
+      ordered_fault (all_visits stand.store TheOwner ++ writing_visits stand.store) (AtFirst TheOwner) (record { keys = (Owner, key) ∷ []; store = stand.store }) fault
       (λ role at. subst (λ z. IsSome (key_of ((Owner, key) ∷ []) z)) (sym at) (new_open [] Owner key)) owner_ordered failed

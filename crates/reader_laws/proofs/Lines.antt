@@ -20,8 +20,8 @@ use Rattle.log_visits.specs.Visits.{Visit, file_visits, files_that, visits_to_na
 use Rattle.log_visits.proofs.OwnPath.{own_paths}
 use Rattle.log_visits.proofs.Viewing.{view_told}
 use Rattle.move_plan.specs.Fitting.{public_of}
-use Rattle.role_graph.specs.Rights.{Who, allowed_to, named_to}
-use Rattle.role_graph.proofs.Granting.{allowed_to_told, named_to_told}
+use Rattle.role_graph.specs.Rights.{Who, file_allowed_to, named_to}
+use Rattle.role_graph.proofs.Granting.{file_allowed_to_told, named_to_told}
 use Rattle.public_fold.specs.Journal.{Journal, store_of}
 use Rattle.public_fold.specs.Tree.{AreNumbered}
 use Rattle.journal_bytes.specs.Folds.{log_of, public_stand}
@@ -30,8 +30,7 @@ use Rattle.journal_bytes.specs.Opening.{is_to_file, reading_of, seen_by}
 use Rattle.reader_laws.specs.Reading.{AreAllowed, IsReaderOf, IsRightFor, line_shown_of}
 use Rattle.reader_laws.proofs.Readable.{IsReadable}
 use Rattle.reader_laws.proofs.Readers.{file_listed, file_visited, files_pass, listed_file, names_pass, seen, to_names}
-use Rattle.log_visits.proofs.Rights.{allowed_is_named}
-use Rattle.reader_laws.proofs.Seen.{AreToNames, allowed_seen, file_as, file_folder_is, file_line_seen, files_are, folder_lines_seen, names_seen, passed_over}
+use Rattle.reader_laws.proofs.Seen.{AreToNames, file_allowed_seen, file_as, file_folder_is, file_line_seen, files_are, folder_is_named, folder_lines_seen, names_seen, passed_over}
 use Rattle.reader_laws.proofs.Shown.{answered, bundle_reads, published_readable}
 
 -- ---- the one line with a path
@@ -82,7 +81,7 @@ unfolding path_of node_names folder_node
 folder_path s f = refl
 
 -- a file with the path is beside it
-beside : (s : Store) (who : Who) (path : List ℕ) (e : FileEntry) → list_all is_name (file_names s e) ≡ true → allowed_to s who e.folder ≡ true → spell_path (file_names s e) ≡ path → is_beside s who path e ≡ true
+beside : (s : Store) (who : Who) (path : List ℕ) (e : FileEntry) → list_all is_name (file_names s e) ≡ true → file_allowed_to s who e ≡ true → spell_path (file_names s e) ≡ path → is_beside s who path e ≡ true
 unfolding is_beside parent_path
 beside s who path e named allowed is =
     let names = file_names s e in
@@ -90,15 +89,15 @@ beside s who path e named allowed is =
     let told : names_of path ≡ names = ap names_of (sym is) ∙ names_told names named in
     let parent : front (names_of path) ≡ folder_names s e.folder = ap front told ∙ unfold file_names in front_last (List ℕ) (folder_names s e.folder) e.name in
     let same : path_of s (folder_node e.folder) ≡ spell_path (front (names_of path)) = folder_path s e.folder ∙ ap spell_path (sym parent) in
-    and_from (is_path path) (allowed_to s who e.folder && bytes_eq (path_of s (folder_node e.folder)) (spell_path (front (names_of path)))) good
-    (and_from (allowed_to s who e.folder) (bytes_eq (path_of s (folder_node e.folder)) (spell_path (front (names_of path)))) allowed
+    and_from (is_path path) (file_allowed_to s who e && bytes_eq (path_of s (folder_node e.folder)) (spell_path (front (names_of path)))) good
+    (and_from (file_allowed_to s who e) (bytes_eq (path_of s (folder_node e.folder)) (spell_path (front (names_of path)))) allowed
     ((bytes_eq-Decides (path_of s (folder_node e.folder)) (spell_path (front (names_of path)))).1 same))
 
-beside_allowed : (s : Store) (who : Who) (path : List ℕ) (e : FileEntry) → is_beside s who path e ≡ true → allowed_to s who e.folder ≡ true
+beside_allowed : (s : Store) (who : Who) (path : List ℕ) (e : FileEntry) → is_beside s who path e ≡ true → file_allowed_to s who e ≡ true
 unfolding is_beside
 beside_allowed s who path e t =
-    let rest = allowed_to s who e.folder && bytes_eq (path_of s (folder_node e.folder)) (parent_path path) in
-    (and_parts (allowed_to s who e.folder) (bytes_eq (path_of s (folder_node e.folder)) (parent_path path)) (and_parts (is_path path) rest t).1).0
+    let rest = file_allowed_to s who e && bytes_eq (path_of s (folder_node e.folder)) (parent_path path) in
+    (and_parts (file_allowed_to s who e) (bytes_eq (path_of s (folder_node e.folder)) (parent_path path)) (and_parts (is_path path) rest t).1).0
 
 both_if : (a : Bool) (b c : Bool) → (a ≡ true → b ≡ c) → (a && b) ≡ (a && c)
 both_if true b c same = same refl
@@ -106,15 +105,15 @@ both_if false b c same = refl
 
 module _ (vs : List Visit) (s : Store) (who : Who) (numbered : AreNumbered s.folders) (named : AreToNames vs s who) where
   -- what is beside a path is seen
-  beside_seen : (path : List ℕ) (e : FileEntry) → is_beside (seen_by vs s) who path (file_as vs e) ≡ is_beside s who path e
+  beside_seen : (path : List ℕ) (e : FileEntry) → In e s.files → is_beside (seen_by vs s) who path (file_as vs e) ≡ is_beside s who path e
   unfolding is_beside
-  beside_seen path e =
+  beside_seen path e i =
       let t = seen_by vs s in
-      ap (λ f. is_path path && (allowed_to t who f && bytes_eq (path_of t (folder_node f)) (parent_path path))) (file_folder_is vs e)
-      ∙ ap (λ a. is_path path && (a && bytes_eq (path_of t (folder_node e.folder)) (parent_path path))) (allowed_seen vs s who e.folder)
-      ∙ ap (λ b. is_path path && b) (both_if (allowed_to s who e.folder) (bytes_eq (path_of t (folder_node e.folder)) (parent_path path)) (bytes_eq (path_of s (folder_node e.folder)) (parent_path path)) (λ allowed.
+      ap (λ f. is_path path && (file_allowed_to t who (file_as vs e) && bytes_eq (path_of t (folder_node f)) (parent_path path))) (file_folder_is vs e)
+      ∙ ap (λ a. is_path path && (a && bytes_eq (path_of t (folder_node e.folder)) (parent_path path))) (file_allowed_seen vs s who e)
+      ∙ ap (λ b. is_path path && b) (both_if (file_allowed_to s who e) (bytes_eq (path_of t (folder_node e.folder)) (parent_path path)) (bytes_eq (path_of s (folder_node e.folder)) (parent_path path)) (λ allowed.
       ap (λ p. bytes_eq p (parent_path path))
-      (folder_path t e.folder ∙ ap spell_path (names_seen vs s who numbered named e.folder (λ has. allowed_is_named s who e.folder allowed)) ∙ sym (folder_path s e.folder))))
+      (folder_path t e.folder ∙ ap spell_path (names_seen vs s who numbered named e.folder (λ has. folder_is_named s who e i allowed)) ∙ sym (folder_path s e.folder))))
 
   -- so are the lines of the files beside it, where these are visited
   beside_lines : (path : List ℕ) → ((e : FileEntry) → In e s.files → is_beside s who path e ≡ true → list_any (is_to_file e.id) vs ≡ true) → lines_beside (seen_by vs s) who path ≡ lines_beside s who path
@@ -123,7 +122,7 @@ module _ (vs : List Visit) (s : Store) (who : Who) (numbered : AreNumbered s.fol
       let t = seen_by vs s in
       ap (λ xs. map (file_line t) (filter (is_beside t who path) xs)) (files_are vs s)
       ∙ passed_over FileEntry Line (file_as vs) (is_beside t who path) (is_beside s who path) (file_line t) (file_line s) s.files
-      (λ e i. beside_seen path e) (λ e i b. file_line_seen vs s who numbered named e (visited e i b) (beside_allowed s who path e b))
+      (beside_seen path) (λ e i b. file_line_seen vs s who numbered named e i (visited e i b) (beside_allowed s who path e b))
 
   folders_same : folder_lines (seen_by vs s) who ≡ folder_lines s who
   unfolding folder_lines
@@ -143,7 +142,7 @@ unfolding lines_beside
 beside_in_view s who path l i =
     let w = (In-map FileEntry Line (file_line s) l (filter (is_beside s who path) s.files)).0 i in
     let told = In-filter FileEntry (is_beside s who path) w.0 s.files w.1 in
-    (view_told s who l).1 (inr (w.0, told.0, (allowed_to_told s who w.0.folder).0 (beside_allowed s who path w.0 told.1), w.2))
+    (view_told s who l).1 (inr (w.0, told.0, (file_allowed_to_told s who w.0).0 (beside_allowed s who path w.0 told.1), w.2))
 
 file_path : (s : Store) (e : FileEntry) → line_path (file_line s e) ≡ spell_path (file_names s e)
 unfolding line_path file_line
@@ -161,7 +160,7 @@ view_parts s who path l named i is =
     (a.0, filter-In FolderEntry (λ e. named_to s who e.id) a.0 s.folders a.1 ((named_to_told s who a.0.id).1 a.2), a.3)))
     (λ b.
     let e : FileEntry = b.0 in
-    let near : is_beside s who path e ≡ true = beside s who path e (named e b.1) ((allowed_to_told s who e.folder).1 b.2) (sym (file_path s e) ∙ ap line_path (sym b.3) ∙ is) in
+    let near : is_beside s who path e ≡ true = beside s who path e (named e b.1) ((file_allowed_to_told s who e).1 b.2) (sym (file_path s e) ∙ ap line_path (sym b.3) ∙ is) in
     inr ((In-map FileEntry Line (file_line s) l (filter (is_beside s who path) s.files)).1 (e, filter-In FileEntry (is_beside s who path) e s.files b.1 near, b.3)))
     ((view_told s who l).0 i))
 
@@ -242,22 +241,22 @@ module _ (owner : List ℕ) (m : Journal) (ok : IsReadable owner m) (bundle : Bu
     listed : (x : ℕ) → In x files → (e : FileEntry) × In e s.files × (e.id ≡ x) × (is_beside s who path e ≡ true)
     listed x i =
         let w = listed_file names s (is_beside (seen_by names s) who path) x (subst (λ (z : Store). In x (files_that (is_beside z who path) z)) shown i) in
-        (w.0, w.1, w.2, sym (beside_seen names s who ok.numbered to_the_names path w.0) ∙ w.3)
+        (w.0, w.1, w.2, sym (beside_seen names s who ok.numbered to_the_names path w.0 w.1) ∙ w.3)
 
     all_listed : (e : FileEntry) → In e s.files → is_beside s who path e ≡ true → In e.id files
     all_listed e i t =
         subst (λ (z : Store). In e.id (files_that (is_beside z who path) z)) (sym shown)
-        (file_listed names s (is_beside (seen_by names s) who path) e i (beside_seen names s who ok.numbered to_the_names path e ∙ t))
+        (file_listed names s (is_beside (seen_by names s) who path) e i (beside_seen names s who ok.numbered to_the_names path e i ∙ t))
 
     allowed : AreAllowed s who files
-    allowed x i = let w = listed x i in (w.0, w.1, w.2, (allowed_to_told s who w.0.folder).0 (beside_allowed s who path w.0 w.3))
+    allowed x i = let w = listed x i in (w.0, w.1, w.2, (file_allowed_to_told s who w.0).0 (beside_allowed s who path w.0 w.3))
 
-    files_shown : (after : Opened) → visit_all reading (file_visits bare files) o ≡ Ok after → lines_beside after.store who path ≡ lines_beside s who path
+    files_shown : (after : Opened) → visit_all reading (file_visits bare who files) o ≡ Ok after → lines_beside after.store who path ≡ lines_beside s who path
     files_shown after last =
-        let vs = names ++ file_visits bare files in
-        let both = both_visits reading names (file_visits bare files) first o after done last in
+        let vs = names ++ file_visits bare who files in
+        let both = both_visits reading names (file_visits bare who files) first o after done last in
         ap (λ (z : Store). lines_beside z who path) (seen owner m bundle ok is vs after both)
-        ∙ beside_lines vs s who ok.numbered (to_all_names (file_visits bare files)) path (λ e i t. file_visited bare files names e.id (all_listed e i t))
+        ∙ beside_lines vs s who ok.numbered (to_all_names (file_visits bare who files)) path (λ e i t. file_visited bare who files names e.id (all_listed e i t))
 
     line_asked : or_else (line_at path (folder_lines o.store who)) (file_with reading o who path) ≡ or_else (line_at path (view s who)) (Err Unseen)
     unfolding file_with then_on of_bytes public_stand

@@ -25,6 +25,7 @@ use Rattle.role_graph.proofs.Edging.{edges_told}
 use Rattle.public_fold.specs.Journal.{Journal, Stand, entry_step, entry_store, keys_of, nothing, stand_after, stand_then, store_of}
 use Rattle.public_fold.specs.Journal.Entry.{Session}
 use Rattle.public_fold.specs.KeyStep.{KeyState, newest, next_epoch, no_keys}
+use Rattle.public_fold.specs.Rooted.{MayStand}
 use Rattle.public_fold.specs.Tree.{AreNumbered}
 use Rattle.public_fold.specs.Valid.{IsValid}
 use Rattle.public_fold.proofs.Keeping.{journal_tree}
@@ -54,13 +55,16 @@ pub record IsReadable (owner : List ℕ) (m : Journal) : Type 0 where
   pub own_names : HasOwnNames (store_of m)
   pub named_files : (e : FileEntry) → In e (store_of m).files → list_all is_name (file_names (store_of m) e) ≡ true
 
--- what a log folds to has the shape that visits need
-pub fold_shape : (log : List PlainPlaced) (stand : Stand) → folded nothing log ≡ Ok stand → HasShape stand.store
+-- what a log folds to may stand, so it has the shape that visits need
+pub fold_stands : (log : List PlainPlaced) (stand : Stand) → folded nothing log ≡ Ok stand → MayStand stand.store
 unfolding folded nothing
-fold_shape [] stand e =
+fold_stands [] stand e =
     let first : nothing ≡ stand = cc in
-    subst (λ (z : Stand). HasShape z.store) first (shape_of nothing.store (inl refl))
-fold_shape (p ∷ log) stand e = shape_of stand.store (log_with p log stand e).1.store
+    subst (λ (z : Stand). MayStand z.store) first (inl refl)
+fold_stands (p ∷ log) stand e = (log_with p log stand e).1.store
+
+pub fold_shape : (log : List PlainPlaced) (stand : Stand) → folded nothing log ≡ Ok stand → HasShape stand.store
+fold_shape log stand e = shape_of stand.store (fold_stands log stand e)
 
 linked_edges : (owner : List ℕ) (m : Journal) → fold_of owner m ≡ Ok (public_stand m) → (e : Edge) → IsEdge (public_of (store_of m)) e → is_some (link_for (keys_of m) (log_of owner m) e) ≡ true
 unfolding fold_of public_stand

@@ -14,15 +14,14 @@ use Rattle.cry_base.proofs.Members.{In-append, In-filter, In-flat_map, In-map, f
 use Rattle.log_visits.specs.Judging.{first_key, opened_first, who_of}
 use Rattle.log_visits.specs.View.{view}
 use Rattle.log_visits.specs.Visiting.{Opened, Reading, key_of, visit_all}
-use Rattle.log_visits.specs.Visits.{Visit, all_visits, allowed_visits, entry_visits, file_visits, files_that, folders_that, lower_visits, name_visits, upper_visits, visits_to_names}
+use Rattle.log_visits.specs.Visits.{Visit, all_visits, allowed_visits, entry_visits, file_visits, files_that, folders_that, into_file, lower_visits, name_visits, upper_visits, visits_to_names}
 use Rattle.log_visits.specs.Visits.Visit.{ToKey, ToName, ToFile}
-use Rattle.move_plan.specs.Change.{folder_of_file}
 use Rattle.move_plan.specs.Fitting.{public_of}
-use Rattle.role_graph.specs.Edges.{edge, file_edge}
-use Rattle.role_graph.specs.Rights.{Who, allowed_to, named_to}
+use Rattle.role_graph.specs.Edges.{edge}
+use Rattle.role_graph.specs.Rights.{Who, file_allowed_to, named_to}
 use Rattle.role_graph.specs.Roles.{back_of, data_of, holder_role}
 use Rattle.role_graph.proofs.Edging.{In-order}
-use Rattle.role_graph.proofs.Granting.{allowed_to_told}
+use Rattle.role_graph.proofs.Granting.{file_allowed_to_told}
 use Rattle.public_fold.specs.Journal.{Journal, keys_of, store_of}
 use Rattle.journal_bytes.specs.Folds.{fold_of, log_of, public_stand}
 use Rattle.journal_bytes.specs.Keys.{all_keys}
@@ -36,12 +35,12 @@ use Rattle.log_visits.proofs.Ordered.{AreOrdered}
 use Rattle.reader_laws.proofs.Readable.{IsReadable, fold_shape}
 use Rattle.log_visits.proofs.ReaderVisits.{AreFilesIn, AtFirst, Named, all_ordered, files_ordered, names_ordered}
 use Rattle.log_visits.proofs.Rights.{HasShape, passes}
-use Rattle.reader_laws.proofs.Seen.{AreToFiles, AreToNames, allowed_seen, file_as, file_folder_is, file_id_is, files_are, named_seen, view_seen}
+use Rattle.reader_laws.proofs.Seen.{AreToFiles, AreToNames, file_allowed_seen, file_as, file_id_is, files_are, named_seen, view_seen}
 
 -- ---- rights are seen by everyone
 
-pub allowed_public : (s : Store) (who : Who) (f : ℕ) → allowed_to (public_of s) who f ≡ allowed_to s who f
-allowed_public s who f = ap (λ (z : Store). allowed_to z who f) (unseen s) ∙ allowed_seen [] s who f
+pub file_allowed_public : (s : Store) (who : Who) (e : FileEntry) → file_allowed_to (public_of s) who (record e { name = []; bytes = [] }) ≡ file_allowed_to s who e
+file_allowed_public s who e = ap (λ (z : Store). file_allowed_to z who (file_as [] e)) (unseen s) ∙ file_allowed_seen [] s who e
 
 named_public : (s : Store) (who : Who) (f : ℕ) → named_to (public_of s) who f ≡ named_to s who f
 named_public s who f = ap (λ (z : Store). named_to z who f) (unseen s) ∙ named_seen [] s who f
@@ -109,12 +108,12 @@ listed_file ws s test x i =
     (v.0, v.1, sym (file_id_is ws v.0) ∙ ap (λ (d : FileEntry). d.id) (sym v.2) ∙ sym w.2, ap test (sym v.2) ∙ told.1)
 
 -- a file of the list is visited
-pub file_visited : (s : Store) (xs : List ℕ) (more : List Visit) (x : ℕ) → In x xs → list_any (is_to_file x) (more ++ file_visits s xs) ≡ true
+pub file_visited : (s : Store) (who : Who) (xs : List ℕ) (more : List Visit) (x : ℕ) → In x xs → list_any (is_to_file x) (more ++ file_visits s who xs) ≡ true
 unfolding is_to_file file_visits
-file_visited s xs more x i =
-    some_passes Visit (is_to_file x) (more ++ file_visits s xs) (ToFile x)
-    (in_right (ToFile x) more (file_visits s xs)
-    ((In-flat_map ℕ Visit (λ n. ToKey (file_edge (folder_of_file s n) n) ∷ ToFile n ∷ []) (ToFile x) xs).1 (x, i, inr (inl refl))))
+file_visited s who xs more x i =
+    some_passes Visit (is_to_file x) (more ++ file_visits s who xs) (ToFile x)
+    (in_right (ToFile x) more (file_visits s who xs)
+    ((In-flat_map ℕ Visit (λ n. ToKey (into_file s who n) ∷ ToFile n ∷ []) (ToFile x) xs).1 (x, i, inr (inl refl))))
     (eq-eqb x x refl)
 
 -- ---- a reader's visits pass
@@ -185,12 +184,12 @@ module _ (owner : List ℕ) (m : Journal) (bundle : Bundle) (ok : IsReadable own
   public_files xs are x i =
       let w = are x i in
       let e : FileEntry = w.0 in
-      (record e { name = []; bytes = [] }, bare_file_in (store_of m) e w.1, w.2, allowed_public (store_of m) who e.folder ∙ (allowed_to_told (store_of m) who e.folder).1 w.3)
+      (record e { name = []; bytes = [] }, bare_file_in (store_of m) e w.1, w.2, file_allowed_public (store_of m) who e ∙ (file_allowed_to_told (store_of m) who e).1 w.3)
 
-  pub files_pass : (xs : List ℕ) (named : Opened) → AreAllowed (store_of m) who xs → IsNamed named → AllGo reading (file_visits bare xs) named
+  pub files_pass : (xs : List ℕ) (named : Opened) → AreAllowed (store_of m) who xs → IsNamed named → AllGo reading (file_visits bare who xs) named
   unfolding public_stand
   files_pass xs named are done =
-      ordered_go (all_keys owner m) (store_of m) reading ok.openable (file_visits bare xs) (Named bare who shape) named (drawn_by (visits_to_names bare who) named done) (named_open named done)
+      ordered_go (all_keys owner m) (store_of m) reading ok.openable (file_visits bare who xs) (Named bare who shape) named (drawn_by (visits_to_names bare who) named done) (named_open named done)
       (files_ordered bare who shape xs (public_files xs are))
 
   -- ---- and show the store
@@ -202,18 +201,18 @@ module _ (owner : List ℕ) (m : Journal) (bundle : Bundle) (ok : IsReadable own
       (first_store bundle reading ∙ unseen (store_of m)) done
 
   -- the allowed files are visited
-  all_files : AreToFiles (all_visits bare who) (store_of m) (λ e. allowed_to (store_of m) who e.folder)
+  all_files : AreToFiles (all_visits bare who) (store_of m) (file_allowed_to (store_of m) who)
   unfolding all_visits
   all_files e i t =
-      let test : FileEntry → Bool = λ d. allowed_to bare who d.folder in
+      let test : FileEntry → Bool = file_allowed_to bare who in
       let listed : In e.id (files_that test bare) =
       subst (λ (z : Store). In e.id (files_that test z)) (sym (unseen (store_of m)))
-      (file_listed [] (store_of m) test e i (ap (allowed_to bare who) (file_folder_is [] e) ∙ allowed_public (store_of m) who e.folder ∙ t)) in
-      file_visited bare (files_that test bare) (visits_to_names bare who) e.id listed
+      (file_listed [] (store_of m) test e i (file_allowed_public (store_of m) who e ∙ t)) in
+      file_visited bare who (files_that test bare) (visits_to_names bare who) e.id listed
 
   all_names : AreToNames (all_visits bare who) (store_of m) who
   unfolding all_visits
-  all_names = to_names (store_of m) who (file_visits bare (files_that (λ e. allowed_to bare who e.folder) bare))
+  all_names = to_names (store_of m) who (file_visits bare who (files_that (file_allowed_to bare who) bare))
 
   pub view_is : (after : Opened) → visit_all reading (all_visits bare who) first ≡ Ok after → view after.store who ≡ view (store_of m) who
   view_is after done =

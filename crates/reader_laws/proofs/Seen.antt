@@ -1,24 +1,28 @@
 -- What visits show of a store has the rights of the store, and the lines of what they are to.
-use Rattle.std.proofs.Common.{◌≡◌, inl, inr, ℕ, zero, suc, Bool, true, false, cond, ◌==◌, ◌||◌, List, [], ◌∷◌, ◌++◌, drop, length, map, filter, Some, None, refl, ap, ◌∙◌}
+use Rattle.std.proofs.Common.{◌≡◌, ⊎_elim, inl, inr, ℕ, zero, suc, Bool, true, false, cond, ◌==◌, ◌||◌, List, [], ◌∷◌, ◌++◌, drop, length, map, filter, Some, None, refl, ap, ◌∙◌}
 use Rattle.std.specs.Prelude.{find, option_map}
 use Rattle.std.specs.List.{list_any}
 use Rattle.std.proofs.lemmas.Bool.{eqb-true}
 use Rattle.std.proofs.lemmas.List.{length-map}
+use Rattle.cry_base.specs.Clearances.{clear_number}
 use Rattle.cry_base.specs.Naming.{spell_path}
 use Rattle.cry_base.specs.Sets.{In, has, reach}
-use Rattle.cry_base.specs.Store.{Store, FolderEntry, FileEntry, and_above, backwards, file_names, folder_names, way_to_root, way_up}
+use Rattle.cry_base.specs.Sets.Path.{Here, On}
+use Rattle.cry_base.specs.Store.{Store, FolderEntry, FileEntry, and_above, backwards, file_names, folder_names, has_grant, way_to_root, way_up}
 use Rattle.cry_base.specs.Texts.{bytes_before}
 use Rattle.cry_base.proofs.Finding.{find-found}
+use Rattle.cry_base.proofs.Members.{In-append, In-map}
 use Rattle.log_visits.specs.View.{FileLine, AncestorLine, FolderLine, Line, file_line, folder_line, line_path, view}
 use Rattle.log_visits.specs.Visits.{Visit}
 use Rattle.move_plan.specs.Fitting.{public_of}
 use Rattle.role_graph.specs.Edges.{in_order}
-use Rattle.role_graph.specs.Rights.{Who, allowed, allowed_to, downs, granted_to, named, named_to, ups}
+use Rattle.role_graph.specs.Rights.{Who, allowed, allowed_to, downs, file_allowed, file_allowed_to, granted_to, named, named_to, ups}
 use Rattle.role_graph.specs.Rights.Who.{TheOwner, TheHolder}
 use Rattle.role_graph.specs.RightsByReach.{HasFolder}
+use Rattle.role_graph.proofs.Granting.{file_allowed_told, named_told}
 use Rattle.public_fold.specs.Tree.{AreNumbered}
 use Rattle.journal_bytes.specs.Opening.{is_to_file, is_to_name, seen_by}
-use Rattle.log_visits.proofs.Rights.{allowed_is_named, named_above}
+use Rattle.log_visits.proofs.Rights.{named_above}
 
 -- ---- lists
 
@@ -67,6 +71,21 @@ file_folder_is vs e = elim (list_any (is_to_file e.id) vs) as (λ b. (cond b e (
 pub file_id_is : (vs : List Visit) (e : FileEntry) → (file_as vs e).id ≡ e.id
 file_id_is vs e = elim (list_any (is_to_file e.id) vs) as (λ b. (cond b e (record e { name = []; bytes = [] })).id ≡ e.id) [ true ↦ refl | false ↦ refl ]
 
+-- the folder of a file that is allowed is named
+pub folder_is_named : (s : Store) (who : Who) (e : FileEntry) → In e s.files → file_allowed_to s who e ≡ true → named_to s who e.folder ≡ true
+unfolding named_to file_allowed_to ups
+folder_is_named s TheOwner e i t = refl
+folder_is_named s (TheHolder h) e i t = (named_told s h e.folder).1 (⊎_elim
+    (λ a. inl a)
+    (λ granted. inr (
+      clear_number e.id,
+      granted,
+      On Here
+          ((In-append (ℕ × ℕ) (clear_number e.id, e.folder) (map (λ (x : FolderEntry). (x.id, x.parent)) s.folders) (map (λ (x : FileEntry). (clear_number x.id, x.folder)) s.files)).1
+          (inr ((In-map FileEntry (ℕ × ℕ) (λ x. (clear_number x.id, x.folder)) (clear_number e.id, e.folder) s.files).1 (e, i, refl)))),
+    ))
+    ((file_allowed_told s h e).0 t))
+
 -- the visits are to the names of what is named, to the allowed files
 abbrev pub AreToNames : List Visit → Store → Who → Type 0
 AreToNames vs s who = (e : FolderEntry) → In e s.folders → named_to s who e.id ≡ true → list_any (is_to_name e.id) vs ≡ true
@@ -89,7 +108,8 @@ module _ (vs : List Visit) (s : Store) where
 
   ups_seen : ups (seen_by vs s) ≡ ups s
   unfolding ups seen_by
-  ups_seen = map_over FolderEntry (ℕ × ℕ) (folder_as vs) (λ e. (e.id, e.parent)) (λ e i. (folder_id vs e i, folder_parent vs e i)) s.folders
+  ups_seen = λ j. map_over FolderEntry (ℕ × ℕ) (folder_as vs) (λ e. (e.id, e.parent)) (λ e i. (folder_id vs e i, folder_parent vs e i)) s.folders j
+      ++ map_over FileEntry (ℕ × ℕ) (file_as vs) (λ e. (clear_number e.id, e.folder)) (λ e i. (clear_number (file_id_is vs e i), file_folder_is vs e i)) s.files j
 
   grants_seen : (h : ℕ) → granted_to (seen_by vs s) h ≡ granted_to s h
   unfolding granted_to seen_by public_of
@@ -103,10 +123,22 @@ module _ (vs : List Visit) (s : Store) where
   unfolding named
   holder_named h f = λ i. holder_allowed h f i || has ◌==◌ (reach ◌==◌ (ups_seen i) (grants_seen h i)) f
 
-  pub allowed_seen : (who : Who) (f : ℕ) → allowed_to (seen_by vs s) who f ≡ allowed_to s who f
+  allowed_seen : (who : Who) (f : ℕ) → allowed_to (seen_by vs s) who f ≡ allowed_to s who f
   unfolding allowed_to
   allowed_seen TheOwner f = refl
   allowed_seen (TheHolder h) f = holder_allowed h f
+
+  holder_granted : (h c : ℕ) → has_grant (seen_by vs s) h c ≡ has_grant s h c
+  unfolding has_grant seen_by public_of
+  holder_granted h c = refl
+
+  pub file_allowed_seen : (who : Who) (e : FileEntry) → file_allowed_to (seen_by vs s) who (file_as vs e) ≡ file_allowed_to s who e
+  unfolding file_allowed_to file_allowed
+  file_allowed_seen TheOwner e = refl
+  file_allowed_seen (TheHolder h) e =
+      let t = seen_by vs s in
+      (λ i. allowed t h (file_folder_is vs e i) || has_grant t h (clear_number (file_id_is vs e i)))
+      ∙ (λ i. holder_allowed h e.folder i || holder_granted h (clear_number e.id) i)
 
   pub named_seen : (who : Who) (f : ℕ) → named_to (seen_by vs s) who f ≡ named_to s who f
   unfolding named_to
@@ -162,23 +194,22 @@ module _ (vs : List Visit) (s : Store) where
         ∙ passed_over FolderEntry Line (folder_as vs) (λ e. named_to (seen_by vs s) who e.id) (λ e. named_to s who e.id) (folder_line (seen_by vs s) who) (folder_line s who) s.folders
         (λ e i. ap (named_to (seen_by vs s) who) (folder_id vs e) ∙ named_seen who e.id) folder_line_seen
 
-    -- a file that is visited, in an allowed folder
-    pub file_line_seen : (e : FileEntry) → list_any (is_to_file e.id) vs ≡ true → allowed_to s who e.folder ≡ true → file_line (seen_by vs s) (file_as vs e) ≡ file_line s e
+    -- a file that is visited, and allowed
+    pub file_line_seen : (e : FileEntry) → In e s.files → list_any (is_to_file e.id) vs ≡ true → file_allowed_to s who e ≡ true → file_line (seen_by vs s) (file_as vs e) ≡ file_line s e
     unfolding file_line file_names
-    file_line_seen e visited t =
+    file_line_seen e i visited t =
         let kept : file_as vs e ≡ e = ap (λ b. cond b e (record e { name = []; bytes = [] })) visited in
-        let names = names_seen e.folder (λ has. allowed_is_named s who e.folder t) in
+        let names = names_seen e.folder (λ has. folder_is_named s who e i t) in
         ap (λ (d : FileEntry). FileLine (spell_path (folder_names (seen_by vs s) d.folder ++ d.name ∷ [])) d.bytes) kept
         ∙ ap (λ ns. FileLine (spell_path (ns ++ e.name ∷ [])) e.bytes) names
 
-    file_lines_seen : AreToFiles vs s (λ e. allowed_to s who e.folder) → map (file_line (seen_by vs s)) (filter (λ e. allowed_to (seen_by vs s) who e.folder) (seen_by vs s).files) ≡ map (file_line s) (filter (λ e. allowed_to s who e.folder) s.files)
+    file_lines_seen : AreToFiles vs s (file_allowed_to s who) → map (file_line (seen_by vs s)) (filter (file_allowed_to (seen_by vs s) who) (seen_by vs s).files) ≡ map (file_line s) (filter (file_allowed_to s who) s.files)
     file_lines_seen to_files =
-        ap (λ xs. map (file_line (seen_by vs s)) (filter (λ (e : FileEntry). allowed_to (seen_by vs s) who e.folder) xs)) files_are
-        ∙ passed_over FileEntry Line (file_as vs) (λ e. allowed_to (seen_by vs s) who e.folder) (λ e. allowed_to s who e.folder) (file_line (seen_by vs s)) (file_line s) s.files
-        (λ e i. ap (allowed_to (seen_by vs s) who) (file_folder_is vs e) ∙ allowed_seen who e.folder)
-        (λ e i t. file_line_seen e (to_files e i t) t)
+        ap (λ xs. map (file_line (seen_by vs s)) (filter (file_allowed_to (seen_by vs s) who) xs)) files_are
+        ∙ passed_over FileEntry Line (file_as vs) (file_allowed_to (seen_by vs s) who) (file_allowed_to s who) (file_line (seen_by vs s)) (file_line s) s.files
+        (λ e i. file_allowed_seen who e) (λ e i t. file_line_seen e i (to_files e i t) t)
 
     -- the view of what visits show is the store's, where they are to all that is named and allowed
-    pub view_seen : AreToFiles vs s (λ e. allowed_to s who e.folder) → view (seen_by vs s) who ≡ view s who
+    pub view_seen : AreToFiles vs s (file_allowed_to s who) → view (seen_by vs s) who ≡ view s who
     unfolding view
     view_seen to_files = λ i. in_order (λ a b. bytes_before (line_path a) (line_path b)) (folder_lines_seen i ++ file_lines_seen to_files i)

@@ -22,7 +22,7 @@ module _ (owner : List ℕ) (m : Journal) (bundle : Bundle) where
 
   pub files_read : (xs : List ℕ) (named : Opened) → IsValid m → AreWhole owner m → IsReaderOf owner m bundle → AreAllowed (store_of m) (who_of bundle) xs
       → visit_all (reading_of owner m) (visits_to_names (public_stand m).store (who_of bundle)) (opened_first bundle (reading_of owner m)) ≡ Ok named
-      → (after : Opened) × (visit_all (reading_of owner m) (file_visits (public_stand m).store xs) named ≡ Ok after)
+      → (after : Opened) × (visit_all (reading_of owner m) (file_visits (public_stand m).store (who_of bundle) xs) named ≡ Ok after)
   unfolding public_stand
   files_read xs named valid whole is allowed done = files_pass owner m bundle (valid_readable owner m valid whole) is xs named allowed done
 

@@ -9,7 +9,7 @@ use Rattle.log_visits.specs.Asking.{line_at, or_else}
 use Rattle.log_visits.specs.Judging.{Failure, NoHolder, Unseen, who_of}
 use Rattle.log_visits.specs.View.{Line, view}
 use Rattle.public_fold.specs.Journal.{Journal, store_of}
-use Rattle.role_graph.specs.Rights.{Who, IsAllowedTo}
+use Rattle.role_graph.specs.Rights.{Who, IsFileAllowedTo}
 
 -- the bundle has a key of the journal's: the owner's, or the one of a holder that it made
 abbrev pub IsReaderOf : List ℕ → Journal → Bundle → Type 0
@@ -26,9 +26,9 @@ abbrev pub IsWrongFor : List ℕ → Journal → Bundle → Type 0
 IsWrongFor owner m (bundles.Owner key) = check_of owner ≢ check_of key
 IsWrongFor owner m (bundles.Holder h key) = (e : HolderEntry) × (holder_entry (store_of m) h.0 ≡ Some e) × (check_of e.key ≢ check_of key)
 
--- each of these is a file that stands in a folder that is allowed
+-- each of these is a file that stands and is allowed
 abbrev pub AreAllowed : Store → Who → List ℕ → Type 0
-AreAllowed s who xs = (x : ℕ) → In x xs → (e : FileEntry) × In e s.files × (e.id ≡ x) × IsAllowedTo s who e.folder
+AreAllowed s who xs = (x : ℕ) → In x xs → (e : FileEntry) × In e s.files × (e.id ≡ x) × IsFileAllowedTo s who e
 
 -- the answer to a bundle's reader, if the store knows who it is: the owner, or a holder who was made
 unfoldable pub if_known : {A : Type 0} → Store → Bundle → Result A Failure → Result A Failure

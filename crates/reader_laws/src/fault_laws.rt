@@ -22,7 +22,7 @@ pub fn visits_fail_at_records_alone()
     ensures files { (bundle : Bundle) (log : List PlainPlaced) (stand : Stand) (xs : List ℕ) (named : Opened) (fault : Fault)
         → folded nothing log ≡ Ok stand → AreAllowed stand.store (who_of bundle) xs
         → let r : Reading = record { log = log; stand = stand } in
-        names_visited bundle r ≡ Ok named → files_visited r xs named ≡ Err fault → IsOfRecord log fault }
+        names_visited bundle r ≡ Ok named → files_visited bundle r xs named ≡ Err fault → IsOfRecord log fault }
     ensures all { (bundle : Bundle) (log : List PlainPlaced) (stand : Stand) (fault : Fault) → folded nothing log ≡ Ok stand
         → all_visited bundle (record { log = log; stand = stand }) ≡ Err fault → IsOfRecord log fault }
     ensures writing { (key : List ℕ) (log : List PlainPlaced) (stand : Stand) (fault : Fault) → folded nothing log ≡ Ok stand
@@ -38,7 +38,7 @@ pub fn nothing_wants_at_visits()
     ensures files { (bundle : Bundle) (bytes : List ℕ) (log : List PlainPlaced) (stand : Stand) (xs : List ℕ) (named : Opened)
         → bundle_log bundle bytes ≡ Ok log → folded nothing log ≡ Ok stand → AreAllowed stand.store (who_of bundle) xs
         → let r : Reading = record { log = log; stand = stand } in
-        names_visited bundle r ≡ Ok named → files_visited r xs named ≡ Err (Damaged header_len) → ⊥ }
+        names_visited bundle r ≡ Ok named → files_visited bundle r xs named ≡ Err (Damaged header_len) → ⊥ }
     ensures all { (bundle : Bundle) (bytes : List ℕ) (log : List PlainPlaced) (stand : Stand)
         → bundle_log bundle bytes ≡ Ok log → folded nothing log ≡ Ok stand
         → all_visited bundle (record { log = log; stand = stand }) ≡ Err (Damaged header_len) → ⊥ }

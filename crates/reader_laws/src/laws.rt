@@ -24,7 +24,7 @@ pub fn readers_visits_never_fail()
     ensures files { (owner : List ℕ) (m : Journal) (bundle : Bundle) (xs : List ℕ) (named : Opened)
         → IsValid m → AreWhole owner m → IsReaderOf owner m bundle → AreAllowed (store_of m) (who_of bundle) xs
         → names_visited bundle (reading_of owner m) ≡ Ok named
-        → (after : Opened) × (files_visited (reading_of owner m) xs named ≡ Ok after) }
+        → (after : Opened) × (files_visited bundle (reading_of owner m) xs named ≡ Ok after) }
     ensures all { (owner : List ℕ) (m : Journal) (bundle : Bundle) → IsValid m → AreWhole owner m → IsReaderOf owner m bundle
         → (after : Opened) × (all_visited bundle (reading_of owner m) ≡ Ok after) }
 {}

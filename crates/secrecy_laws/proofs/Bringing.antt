@@ -1,11 +1,12 @@
 -- An entry that brings a role into a holder's reach is a gain for the holder.
 use Rattle.std.proofs.Common.{◌≡◌, ℕ, not, ◌&&◌, ◌==◌, List, [], ◌∷◌, Option, Some, None, inl, inr, ◌⊎◌, ⊎_elim, refl, sym, ap, subst}
 use Rattle.std.proofs.lemmas.Bool.{eqb-true}
+use Rattle.cry_base.specs.Clearances.{clear_number}
 use Rattle.cry_base.specs.Sets.{In}
 use Rattle.cry_base.specs.Sets.Path.{Here, On}
 use Rattle.cry_base.specs.Requests.{Request}
 use Rattle.cry_base.specs.Requests.Request.{AddHolder, MakeFolder, WriteFile, Remove, Rename, Relocate, Grant, Revoke}
-use Rattle.cry_base.specs.Refusing.{id_of}
+use Rattle.cry_base.specs.Refusing.{granted_id, id_of}
 use Rattle.cry_base.specs.Store.{Store, FolderEntry, FileEntry, GrantEntry, folder_node, file_node, folder_entry, file_entry, node_at, nodes_of}
 use Rattle.cry_base.specs.Stepping.{with_new_holder, with_new_folder, with_new_file, with_folder, with_file, without_folder, without_file, without_grant, with_bytes_at, without_node, with_name, moved, effect}
 use Rattle.cry_base.specs.declared.roles.Edge.{Edge}
@@ -23,6 +24,7 @@ use Rattle.role_graph.proofs.Rightful.{rights_by_reach}
 use Rattle.public_fold.specs.Keyed.{HasRole}
 use Rattle.public_fold.proofs.Accepting.{folder_in_nodes, file_in_nodes}
 use Rattle.public_fold.proofs.KeyMoves.{IsSound}
+use Rattle.public_fold.proofs.Settling.{rooted_settled}
 use Rattle.public_fold.proofs.Treeing.{folder_own, file_own}
 use Rattle.closure_laws.specs.Gains.{GivesGrant, IsGainedNode}
 
@@ -37,7 +39,7 @@ same_removed : (s : Store) (o : Option Node) (g : GrantEntry) → In g (without_
 unfolding without_node without_folder without_file
 same_removed s None g i = i
 same_removed s (Some (node.Folder f)) g i = (In-filter GrantEntry (λ y. not (y.folder == f.0)) g s.grants i).0
-same_removed s (Some (node.File x)) g i = i
+same_removed s (Some (node.File x)) g i = (In-filter GrantEntry (λ y. not (y.folder == clear_number x.0)) g s.grants i).0
 
 same_renamed : (s : Store) (name : List ℕ) (o : Option Node) (g : GrantEntry) → In g (with_name s o name).grants → In g s.grants
 unfolding with_name with_folder with_file
@@ -60,11 +62,11 @@ new_grant s (Remove path) key g i n = absurd (n (same_removed s (node_at s path)
 new_grant s (Rename path name) key g i n = absurd (n (same_renamed s name (node_at s path) g i))
 new_grant s (Relocate path into) key g i n = absurd (n (same_moved s (node_at s path) (id_of (node_at s into)) g i))
 new_grant s (Grant h path) key g i n =
-    let new : GrantEntry = record { holder = h; folder = id_of (node_at s path) } in ⊎_elim
+    let new : GrantEntry = record { holder = h; folder = granted_id (node_at s path) } in ⊎_elim
     (λ u. absurd (n u))
     (λ u. ⊎_elim (λ (q : g ≡ new). sym (ap (λ (x : GrantEntry). x.holder) q)) (λ z. absurd z) u)
     ((In-append GrantEntry g s.grants (new ∷ [])).0 i)
-new_grant s (Revoke h path) key g i n = absurd (n (In-filter GrantEntry (λ y. not (y.holder == h && y.folder == id_of (node_at s path))) g s.grants i).0)
+new_grant s (Revoke h path) key g i n = absurd (n (In-filter GrantEntry (λ y. not (y.holder == h && y.folder == granted_id (node_at s path))) g s.grants i).0)
 
 pub standing : (s : Store) (r : Role) → HasRole s r → IsStandingRole s r
 standing s Owner h = tt
@@ -139,6 +141,6 @@ pub brings_gain : (s t : Store) (h : ℕ) → IsSettled s → IsSound t → ((e 
 brings_gain s t h before ok ends request key is r stood way out = ⊎_elim
     (λ e. absurd (out (subst (λ z. Reaches (edges s) (holder_role h) z) (sym e) Here)))
     (λ stands. rightful_anew s t h ok request key is r stood stands
-    ((rights_by_reach t ok.settled h r (standing t r stands)).0 way)
+    ((rights_by_reach t (rooted_settled t ok.rooted) h r (standing t r stands)).0 way)
     (λ right. out ((rights_by_reach s before h r (standing s r stood)).1 right)))
     (reached_end t ends (holder_role h) r way)

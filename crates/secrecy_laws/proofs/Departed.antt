@@ -1,8 +1,6 @@
 -- What a holder derives in a store of version 2 was shown to the holder from its writing on, or was derived before the upgrade.
-use Rattle.std.proofs.Common.{◌≡◌, ℕ, ◌==◌, true, false, List, [], ◌∷◌, ◌++◌, Some, None, ◌⊎◌, inl, inr, ⊎_elim, refl, sym, ap, ◌∙◌, subst, arith, append_assoc}
+use Rattle.std.proofs.Common.{◌≡◌, ℕ, ◌==◌, true, false, List, [], ◌∷◌, ◌++◌, Some, ◌⊎◌, inl, inr, ⊎_elim, refl, sym, ap, ◌∙◌, subst, arith, append_assoc}
 use Rattle.std.proofs.lemmas.Bool.{cases_Bool, eqb-true, eq-eqb, false≢true}
-use Rattle.cry_base.specs.Limits.{most_file_bytes}
-use Rattle.cry_base.specs.Refusing.{refusal_of}
 use Rattle.cry_base.specs.Requests.{Request}
 use Rattle.cry_base.specs.Sets.{In, Path}
 use Rattle.cry_base.specs.Store.{Store}
@@ -23,14 +21,15 @@ use Rattle.public_fold.specs.StandFits.{all_fit}
 use Rattle.public_fold.specs.Valid.{FollowOn, IsValid}
 use Rattle.public_fold.proofs.KeyMoves.{upgrade_moves}
 use Rattle.public_fold.proofs.Prefixes.{stand_after-append}
+use Rattle.public_fold.proofs.Versioned.{did_version, session_version, upgraded_version}
 use Rattle.closure_laws.specs.Gains.{IsWritten}
 use Rattle.closure_laws.specs.History.{Derives, DerivesFor, history, own_serial}
 use Rattle.closure_laws.specs.Secrecy.{IsShownNode, node_of_piece}
 use Rattle.secrecy_laws.specs.Departures.{ClosesDepartures, IsDerivedBefore, IsShownSince, KeepsDepartures}
 use Rattle.secrecy_laws.specs.Holding.{Opens}
 use Rattle.secrecy_laws.specs.Pasts.{Past, no_past, past_after, past_entry, past_of, past_then, state_of, move_of}
-use Rattle.secrecy_laws.proofs.Departing.{Departing, did_departs, did_version, journal_departs, made_version, session_departs, session_version, upgraded_departs, upgraded_version}
-use Rattle.secrecy_laws.proofs.Journals.{Kept, did_count, did_fits, did_step, holder_is_root, made_stand, session_fit, session_state, upgraded_brings, upgraded_count, upgraded_fits, upgraded_step}
+use Rattle.secrecy_laws.proofs.Departing.{Departing, did_departs, journal_departs, made_version, session_departs, upgraded_departs}
+use Rattle.secrecy_laws.proofs.Journals.{Follow, IsDone, Kept, did_count, did_fits, did_step, holder_is_root, made_stand, session_fit, session_state, upgraded_brings, upgraded_count, upgraded_fits, upgraded_step}
 use Rattle.secrecy_laws.proofs.Leading.{opens_or_reaches}
 use Rattle.secrecy_laws.proofs.Sealing.{IsSealedPiece, reached_shown, sealed_later}
 use Rattle.secrecy_laws.proofs.Secrets.{journal_trails, opens_derives, opens_last, past_after-append, written_at}
@@ -102,7 +101,7 @@ module _ (t : Store) (h : ℕ) (c : Content) (sealed : IsSealedPiece t c.piece) 
   reached_now : (at : Stand) (p : Past) → Kept at p → Reaches (edges at.store) (holder_role h) (sealing_role c.piece) → IsShownNode at.store h (node_of_piece c.piece)
   reached_now at p ok way = reached_shown at.store h c.piece ok.sound (sealed_later t at.store h c.piece ok.sound (upgrade_moves false at.store ok.sound).ends_before sealed way) way
 
-  did_opens : (at : Stand) (p : Past) (request : Request) (keys : List (List ℕ)) → Departing at p → refusal_of at.store request most_file_bytes ≡ None
+  did_opens : (at : Stand) (p : Past) (request : Request) (keys : List (List ℕ)) → Departing at p → IsDone at request
       → Departing (stand_then at (Did request keys)) (past_entry at p (Did request keys)) → (stand_then at (Did request keys)).keys.version ≡ 2 → IsMadeKey p
       → OpensNow (stand_then at (Did request keys)) (past_entry at p (Did request keys)) → OpensNow at p ⊎ Reaches (edges (stand_then at (Did request keys)).store) (holder_role h) (sealing_role c.piece)
   did_opens at p request keys ok e after two made d =
@@ -128,7 +127,7 @@ module _ (t : Store) (h : ℕ) (c : Content) (sealed : IsSealedPiece t c.piece) 
       (holder_role h) (holder_is_root h) (sealing_role c.piece) c.key_serial made d)
 
   -- in version 2 what is opened in the end is opened now, or shown later
-  opened_in_two : (later : List Entry) (at : Stand) (p : Past) → Departing at p → FollowOn at later → all_fit at later ≡ true → at.keys.version ≡ 2 → IsMadeKey p
+  opened_in_two : (later : List Entry) (at : Stand) (p : Past) → Departing at p → Follow at later → all_fit at later ≡ true → at.keys.version ≡ 2 → IsMadeKey p
       → OpensNow (stand_after at later) (past_after at p later) → OpensNow at p ⊎ ShownFrom at later h c
   unfolding stand_after past_after
   opened_in_two [] at p ok f t two made d = inl d
@@ -140,18 +139,18 @@ module _ (t : Store) (h : ℕ) (c : Content) (sealed : IsSealedPiece t c.piece) 
   opened_in_two (Did request keys ∷ later) at p ok f t two made d =
       let entry = Did request keys in
       let count = did_count at request keys later t in
-      let after = did_departs at p request keys ok f.0.0 count.0 in
+      let after = did_departs at p request keys ok f.0 count.0 in
       let still = did_version at request keys f.0.0 ∙ two in ⊎_elim
       (λ o. ⊎_elim
       (λ before. inl before)
       (λ way. inr (shown_on at entry later h c (shown_here (stand_then at entry) later h c (reached_now (stand_then at entry) (past_entry at p entry) after.kept way))))
-      (did_opens at p request keys ok f.0.0 after still made o))
+      (did_opens at p request keys ok f.0 after still made o))
       (λ w. inr (shown_on at entry later h c w))
       (opened_in_two later (stand_then at entry) (past_entry at p entry) after f.1 count.1 still (made_on at p entry (sealing_role c.piece, c.key_serial) made) d)
-  opened_in_two (Upgraded keys ∷ later) at p ok f t two made d = absurd (one_or_two at.keys.version f.0.0 two)
+  opened_in_two (Upgraded keys ∷ later) at p ok f t two made d = absurd (one_or_two at.keys.version f.0 two)
 
   -- in a store that comes to have version 2 it was opened before that, or is shown later
-  opened_by_two : (later : List Entry) (at : Stand) (p : Past) → Departing at p → FollowOn at later → all_fit at later ≡ true → (at.keys.version ≡ 2 → ⊥) → IsMadeKey p
+  opened_by_two : (later : List Entry) (at : Stand) (p : Past) → Departing at p → Follow at later → all_fit at later ≡ true → (at.keys.version ≡ 2 → ⊥) → IsMadeKey p
       → (stand_after at later).keys.version ≡ 2 → OpensNow (stand_after at later) (past_after at p later) → ShownFrom at later h c ⊎ OpensBefore at p later h c.key_serial
   unfolding stand_after past_after
   opened_by_two [] at p ok f t other made two d = absurd (other two)
@@ -165,7 +164,7 @@ module _ (t : Store) (h : ℕ) (c : Content) (sealed : IsSealedPiece t c.piece) 
       let count = did_count at request keys later t in ⊎_elim
       (λ w. inl (shown_on at entry later h c w))
       (λ w. inr (opens_on at p entry later h c.key_serial w))
-      (opened_by_two later (stand_then at entry) (past_entry at p entry) (did_departs at p request keys ok f.0.0 count.0) f.1 count.1
+      (opened_by_two later (stand_then at entry) (past_entry at p entry) (did_departs at p request keys ok f.0 count.0) f.1 count.1
       (λ v. other (sym (did_version at request keys f.0.0) ∙ v)) (made_on at p entry (sealing_role c.piece, c.key_serial) made) two d)
   opened_by_two (Upgraded keys ∷ later) at p ok f t other made two d =
       let entry = Upgraded keys in

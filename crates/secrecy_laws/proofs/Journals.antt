@@ -7,12 +7,12 @@ use Rattle.cry_base.specs.Sets.{In, Path}
 use Rattle.cry_base.specs.Requests.{Request}
 use Rattle.cry_base.specs.Store.{Store, no_store, root_store}
 use Rattle.cry_base.specs.Stepping.{effect}
-use Rattle.cry_base.specs.Refusing.{refusal_of}
+use Rattle.cry_base.specs.Refusing.{refusal_in}
 use Rattle.cry_base.specs.declared.roles.Edge.{Edge}
 use Rattle.cry_base.specs.declared.roles.Role.{Role}
 use Rattle.cry_base.specs.declared.roles.Role.TheVariants.{Owner}
 use Rattle.cry_base.proofs.Members.{In-map}
-use Rattle.role_graph.specs.Edges.{Reaches, edges, pairs_of, IsOwnEdge, IsParentEdge, IsGrantEdge, IsFileEdge}
+use Rattle.role_graph.specs.Edges.{Reaches, edges, pairs_of}
 use Rattle.role_graph.specs.Roles.{holder_role, is_root_role, same_role}
 use Rattle.role_graph.proofs.Comparing.{same_role_tells}
 use Rattle.role_graph.proofs.Edging.{edges_told}
@@ -29,7 +29,9 @@ use Rattle.public_fold.specs.Records.{Piece, pieces_of}
 use Rattle.public_fold.specs.StandFits.{has_count, note_fits, entry_fits, all_fit}
 use Rattle.public_fold.specs.Valid.{FollowOn}
 use Rattle.public_fold.proofs.KeepingKeys.{IsMove, keys_after}
-use Rattle.public_fold.proofs.KeyMoves.{IsSound, effect_sound, root_sound, command_moves, root_moves, upgrade_moves, nothing_holds, epoch_holds}
+use Rattle.public_fold.proofs.KeyMoves.{IsSound, effect_sound, root_sound, command_moves, root_moves, upgrade_moves, nothing_holds, no_edge, epoch_holds}
+use Rattle.public_fold.proofs.Numbers.{HasNumbers, IsWithin, numbers_below, within_session, within_did, within_upgraded}
+use Rattle.public_fold.proofs.Settling.{rooted_settled}
 use Rattle.closure_laws.specs.Gains.{IsGain}
 use Rattle.secrecy_laws.specs.States.{IsStep, Fits}
 use Rattle.secrecy_laws.specs.Holding.{Holds, Opens, Brings, OpensAnew}
@@ -39,6 +41,29 @@ use Rattle.secrecy_laws.proofs.Steps.{stays_held}
 use Rattle.secrecy_laws.proofs.Whole.{opens_by_gain}
 use Rattle.secrecy_laws.proofs.KeySteps.{is_step, fits_step, below_after}
 use Rattle.secrecy_laws.proofs.Bringing.{brings_gain}
+
+-- a store of the version accepts the command, and has numbers left for what it makes
+abbrev pub IsDone : Stand → Request → Type 0
+IsDone at request = (refusal_in (is_strict at.keys) at.store request most_file_bytes ≡ None) × HasNumbers at.store
+
+-- the entry may come next, and each of some may, one after another
+abbrev pub MayCome : Stand → Entry → Type 0
+MayCome at Session = Unit {0}
+MayCome at (Made version keys) = ⊥
+MayCome at (Did request keys) = IsDone at request
+MayCome at (Upgraded keys) = at.keys.version ≡ 1
+
+abbrev pub Follow : Stand → List Entry → Type 0
+Follow at [] = Unit {0}
+Follow at (entry ∷ entries) = MayCome at entry × Follow (stand_then at entry) entries
+
+pub follow_within : (entries : List Entry) (at : Stand) → FollowOn at entries → IsWithin at entries → Follow at entries
+follow_within [] at f low = tt
+follow_within (Session ∷ entries) at f low = (tt, follow_within entries (stand_then at Session) f.1 (within_session at entries low))
+follow_within (Made version keys ∷ entries) at f low = absurd f.0
+follow_within (Did request keys ∷ entries) at f low =
+    ((f.0.0, numbers_below at (Did request keys) entries low), follow_within entries (stand_then at (Did request keys)) f.1 (within_did at request keys entries low))
+follow_within (Upgraded keys ∷ entries) at f low = (f.0.0, follow_within entries (stand_then at (Upgraded keys)) f.1 (within_upgraded at keys entries low))
 
 -- what holds of a stand with its past
 pub record Kept (at : Stand) (p : Past) : Type 0 where
@@ -65,13 +90,9 @@ step_kept s t k c p pieces mv ok below was sound count = record {
 }
 
 -- at first
-no_edge : (e : Edge) → In e (edges no_store) → ⊥
-unfolding no_store
-no_edge e i = let w = (edges_told no_store e).0 i in ⊎_elim (λ (o : IsOwnEdge no_store e). o.1) (λ v. ⊎_elim (λ (p : IsParentEdge no_store e). p.1) (λ u. ⊎_elim (λ (g : IsGrantEdge no_store e). g.1) (λ (x : IsFileEdge no_store e). x.1) u) v) w
-
 no_pair : (q : Role × Role) → In q (pairs_of (edges no_store)) → ⊥
 unfolding pairs_of
-no_pair q i = let w = (In-map Edge (Role × Role) (λ e. (e.from, e.to)) q (edges no_store)).0 i in no_edge w.0 w.1
+no_pair q i = let w = (In-map Edge (Role × Role) (λ e. (e.from, e.to)) q (edges no_store)).0 i in no_edge w.0 ((edges_told no_store w.0).0 w.1)
 
 pub owner_alone : (r : Role) (n : ℕ) → newest ((Owner, 0) ∷ []) r ≡ Some n → (Owner ≡ r) × (n ≡ 0)
 unfolding newest
@@ -138,20 +159,20 @@ session_kept at p ok = record {
 }
 
 -- an accepted command moves edges and roles
-pub moves : (at : Stand) (request : Request) (keys : List (List ℕ)) → IsSound at.store → refusal_of at.store request most_file_bytes ≡ None
+pub moves : (at : Stand) (request : Request) (keys : List (List ℕ)) → IsSound at.store → IsDone at request
     → IsMove at.store (change_of (is_strict at.keys) at.store (note_of at.store request [])) (effect at.store request (first_key keys))
-moves at request keys sound e = command_moves (is_strict at.keys) at.store request (first_key keys) [] most_file_bytes e sound
+moves at request keys sound e = command_moves (is_strict at.keys) at.store request (first_key keys) [] most_file_bytes e.0 e.1 sound
 
-pub did_kept : (at : Stand) (p : Past) (request : Request) (keys : List (List ℕ)) → Kept at p → refusal_of at.store request most_file_bytes ≡ None → (entry_step at (Did request keys)).after.count < 2 ^ 32
+pub did_kept : (at : Stand) (p : Past) (request : Request) (keys : List (List ℕ)) → Kept at p → IsDone at request → (entry_step at (Did request keys)).after.count < 2 ^ 32
     → Kept (stand_then at (Did request keys)) (past_entry at p (Did request keys))
 unfolding stand_then entry_store entry_step note_step past_entry
 did_kept at p request keys ok e count =
     let s = at.store in
     let t = effect s request (first_key keys) in
     let note = note_of s request [] in
-    step_kept s t at.keys (change_of (is_strict at.keys) s note) p (pieces_of note t) (moves at request keys ok.sound e) ok.keys ok.below ok.holds (effect_sound s request (first_key keys) most_file_bytes e ok.sound) count
+    step_kept s t at.keys (change_of (is_strict at.keys) s note) p (pieces_of note t) (moves at request keys ok.sound e) ok.keys ok.below ok.holds (effect_sound (is_strict at.keys) s request (first_key keys) most_file_bytes e.0 e.1 ok.sound) count
 
-pub did_step : (at : Stand) (p : Past) (request : Request) (keys : List (List ℕ)) → Kept at p → refusal_of at.store request most_file_bytes ≡ None
+pub did_step : (at : Stand) (p : Past) (request : Request) (keys : List (List ℕ)) → Kept at p → IsDone at request
     → IsStep (state_of at p) (move_of (edges at.store) (change_of (is_strict at.keys) at.store (note_of at.store request [])) (entry_step at (Did request keys))) (state_of (stand_then at (Did request keys)) (past_entry at p (Did request keys)))
 unfolding stand_then entry_store entry_step note_step past_entry
 did_step at p request keys ok e =
@@ -160,7 +181,7 @@ did_step at p request keys ok e =
     let note = note_of s request [] in
     is_step s t at.keys (change_of (is_strict at.keys) s note) p (pieces_of note t) (moves at request keys ok.sound e) ok.keys ok.below
 
-pub did_fits : (at : Stand) (p : Past) (request : Request) (keys : List (List ℕ)) → Kept at p → refusal_of at.store request most_file_bytes ≡ None
+pub did_fits : (at : Stand) (p : Past) (request : Request) (keys : List (List ℕ)) → Kept at p → IsDone at request
     → Fits is_root_role (state_of at p) (move_of (edges at.store) (change_of (is_strict at.keys) at.store (note_of at.store request [])) (entry_step at (Did request keys))) (state_of (stand_then at (Did request keys)) (past_entry at p (Did request keys)))
 unfolding stand_then entry_store entry_step note_step past_entry
 did_fits at p request keys ok e =
@@ -224,7 +245,7 @@ unfolding all_fit
 session_fit at entries t = (and_parts (entry_fits at Session) (all_fit (stand_then at Session) entries) t).1
 
 -- entries are turns of the laws, and leave the state that they leave
-are_steps : (entries : List Entry) (at : Stand) (p : Past) → Kept at p → FollowOn at entries → all_fit at entries ≡ true → AreSteps is_root_role (state_of at p) (turns_of at p entries)
+are_steps : (entries : List Entry) (at : Stand) (p : Past) → Kept at p → Follow at entries → all_fit at entries ≡ true → AreSteps is_root_role (state_of at p) (turns_of at p entries)
 unfolding turns_of
 are_steps [] at p ok f t = tt
 are_steps (Session ∷ entries) at p ok f t = session_steps (are_steps entries (stand_then at Session) p (session_is (session_kept at p ok)) f.1 (session_fit at entries t))
@@ -237,9 +258,9 @@ are_steps (Session ∷ entries) at p ok f t = session_steps (are_steps entries (
 are_steps (Made version keys ∷ entries) at p ok f t = absurd f.0
 are_steps (Did request keys ∷ entries) at p ok f t =
     let w = did_count at request keys entries t in (
-      did_step at p request keys ok f.0.0,
-      did_fits at p request keys ok f.0.0,
-      are_steps entries (stand_then at (Did request keys)) (past_entry at p (Did request keys)) (did_kept at p request keys ok f.0.0 w.0) f.1 w.1,
+      did_step at p request keys ok f.0,
+      did_fits at p request keys ok f.0,
+      are_steps entries (stand_then at (Did request keys)) (past_entry at p (Did request keys)) (did_kept at p request keys ok f.0 w.0) f.1 w.1,
     )
 are_steps (Upgraded keys ∷ entries) at p ok f t =
     let w = upgraded_count at keys entries t in (
@@ -252,7 +273,7 @@ pub session_state : (at : Stand) (p : Past) → state_of (stand_then at Session)
 unfolding stand_then entry_store entry_step next_epoch
 session_state at p = refl
 
-states_are : (entries : List Entry) (at : Stand) (p : Past) → FollowOn at entries → state_after (state_of at p) (turns_of at p entries) ≡ state_of (stand_after at entries) (past_after at p entries)
+states_are : (entries : List Entry) (at : Stand) (p : Past) → Follow at entries → state_after (state_of at p) (turns_of at p entries) ≡ state_of (stand_after at entries) (past_after at p entries)
 unfolding turns_of state_after stand_after past_after past_entry
 states_are [] at p f = refl
 states_are (Session ∷ entries) at p f =
@@ -262,13 +283,13 @@ states_are (Did request keys ∷ entries) at p f = states_are entries (stand_the
 states_are (Upgraded keys ∷ entries) at p f = states_are entries (stand_then at (Upgraded keys)) (past_entry at p (Upgraded keys)) f.1
 
 -- an entry that brings a role into reach is a gain
-did_gains : (at : Stand) (p : Past) (request : Request) (keys : List (List ℕ)) (h : ℕ) (r : Role) → Kept at p → refusal_of at.store request most_file_bytes ≡ None
+did_gains : (at : Stand) (p : Past) (request : Request) (keys : List (List ℕ)) (h : ℕ) (r : Role) → Kept at p → IsDone at request
     → Brings (state_of at p) (state_of (stand_then at (Did request keys)) (past_entry at p (Did request keys))) (holder_role h) r → IsGain at (Did request keys) h
 unfolding stand_then entry_store
 did_gains at p request keys h r ok e b =
     let s = at.store in
     let t = effect s request (first_key keys) in
-    brings_gain s t h ok.sound.settled (effect_sound s request (first_key keys) most_file_bytes e ok.sound) (moves at request keys ok.sound e).ends_after request (first_key keys) refl r
+    brings_gain s t h (rooted_settled s ok.sound.rooted) (effect_sound (is_strict at.keys) s request (first_key keys) most_file_bytes e.0 e.1 ok.sound) (moves at request keys ok.sound e).ends_after request (first_key keys) refl r
     ((ok.keys.keyed r).1 b.0) b.1 b.2
 
 -- an upgrade leaves the edges, and so brings nothing
@@ -284,7 +305,7 @@ abbrev pub OpensFrom : Stand → Past → List Entry → ℕ → ℕ → Type 0
 OpensFrom at p [] h k = ⊥
 OpensFrom at p (entry ∷ entries) h k = OpensAt at p entry h k ⊎ OpensFrom (stand_then at entry) (past_entry at p entry) entries h k
 
-opened_later : (entries : List Entry) (at : Stand) (p : Past) (h k : ℕ) → Kept at p → FollowOn at entries → all_fit at entries ≡ true
+opened_later : (entries : List Entry) (at : Stand) (p : Past) (h k : ℕ) → Kept at p → Follow at entries → all_fit at entries ≡ true
     → IsOpened (holder_role h) k (state_of at p) (turns_of at p entries) → OpensFrom at p entries h k
 unfolding turns_of past_entry
 opened_later [] at p h k ok f t g = g
@@ -294,8 +315,8 @@ opened_later (Session ∷ entries) at p h k ok f t g =
 opened_later (Made version keys ∷ entries) at p h k ok f t g = absurd f.0
 opened_later (Did request keys ∷ entries) at p h k ok f t g =
     let w = did_count at request keys entries t in ⊎_elim
-    (λ u. inl (did_gains at p request keys h u.brought.0 ok f.0.0 u.brought.1, u))
-    (λ u. inr (opened_later entries (stand_then at (Did request keys)) (past_entry at p (Did request keys)) h k (did_kept at p request keys ok f.0.0 w.0) f.1 w.1 u)) g
+    (λ u. inl (did_gains at p request keys h u.brought.0 ok f.0 u.brought.1, u))
+    (λ u. inr (opened_later entries (stand_then at (Did request keys)) (past_entry at p (Did request keys)) h k (did_kept at p request keys ok f.0 w.0) f.1 w.1 u)) g
 opened_later (Upgraded keys ∷ entries) at p h k ok f t g =
     let w = upgraded_count at keys entries t in ⊎_elim
     (λ u. absurd (upgraded_brings at p keys (holder_role h) u.brought.0 u.brought.1))
@@ -306,7 +327,7 @@ unfolding is_root_role holder_role Rattle.role_graph.specs.Roles.variant_of
 holder_is_root h = refl
 
 -- what is sealed under the present key of a clean role out of reach
-pub later_opens : (later : List Entry) (at : Stand) (p : Past) (h : ℕ) (r : Role) (k a : ℕ) → Kept at p → FollowOn at later → all_fit at later ≡ true
+pub later_opens : (later : List Entry) (at : Stand) (p : Past) (h : ℕ) (r : Role) (k a : ℕ) → Kept at p → Follow at later → all_fit at later ≡ true
     → newest at.keys.keys r ≡ Some k → (In r at.keys.dirty → ⊥) → (Reaches (edges at.store) (holder_role h) r → ⊥)
     → newest (stand_after at later).keys.keys (holder_role h) ≡ Some a → Path (map ends_of (past_after at p later).links) a k → OpensFrom at p later h k
 later_opens later at p h r k a ok f t e clean out own way =

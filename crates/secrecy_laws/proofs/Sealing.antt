@@ -18,6 +18,7 @@ use Rattle.public_fold.specs.Keyed.{HasRole}
 use Rattle.public_fold.specs.KeyStep.{numbered, present, content_of, contents_from}
 use Rattle.public_fold.specs.Records.{Content, Piece, folder_piece, file_piece, holder_piece, pieces_of, sealing_role}
 use Rattle.public_fold.proofs.KeyMoves.{IsSound}
+use Rattle.public_fold.proofs.Settling.{rooted_settled}
 use Rattle.public_fold.proofs.Treeing.{file_own, folder_own}
 use Rattle.closure_laws.specs.Secrecy.{IsShownNode, node_of_piece}
 use Rattle.secrecy_laws.proofs.Bringing.{reached_end, standing, found_file, found_folder}
@@ -135,7 +136,7 @@ sealed_stands t piece w = ⊎_elim
 pub reached_shown : (t : Store) (h : ℕ) (piece : Piece) → IsSound t → IsSealedPiece t piece → Reaches (edges t) (holder_role h) (sealing_role piece) → IsShownNode t h (node_of_piece piece)
 unfolding data_of file_role folder_node file_node
 reached_shown t h piece ok w way =
-    let right = (rights_by_reach t ok.settled h (sealing_role piece) (standing t (sealing_role piece) (sealed_stands t piece w))).0 way in ⊎_elim
+    let right = (rights_by_reach t (rooted_settled t ok.rooted) h (sealing_role piece) (standing t (sealing_role piece) (sealed_stands t piece w))).0 way in ⊎_elim
     (λ u. let named = subst (IsRightful t h) u.1.role right in
     subst (IsShownNode t h) (sym u.1.node) (u.1.entry, u.1.stands, named))
     (λ v. ⊎_elim

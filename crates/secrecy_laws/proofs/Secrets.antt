@@ -1,12 +1,11 @@
 -- Revocation secrecy for every valid journal, both sentences.
-use Rattle.std.proofs.Common.{◌≡◌, ℕ, ◌+◌, ◌<◌, true, List, [], ◌∷◌, ◌++◌, map, length, Some, None, inl, inr, ◌⊎◌, ◌↔◌, ⊎_elim, refl, sym, ap, ◌∙◌, subst, append_assoc, append-nil}
+use Rattle.std.proofs.Common.{◌≡◌, ℕ, ◌+◌, ◌<◌, ◌≤◌, true, List, [], ◌∷◌, ◌++◌, map, length, Some, inl, inr, ◌⊎◌, ◌↔◌, ⊎_elim, refl, sym, ap, ◌∙◌, subst, append_assoc, append-nil}
 use Rattle.std.proofs.lemmas.List.{map-append}
-use Rattle.cry_base.specs.Limits.{most_file_bytes}
+use Rattle.cry_base.specs.Limits.{most_store_bytes}
 use Rattle.cry_base.specs.Sets.{In, Path}
 use Rattle.cry_base.specs.Requests.{Request}
 use Rattle.cry_base.specs.Store.{Store, no_store, root_store}
 use Rattle.cry_base.specs.Stepping.{effect}
-use Rattle.cry_base.specs.Refusing.{refusal_of}
 use Rattle.cry_base.specs.declared.roles.Role.{Role}
 use Rattle.role_graph.specs.Edges.{edges}
 use Rattle.role_graph.specs.Rights.Who.{TheHolder}
@@ -19,13 +18,15 @@ use Rattle.public_fold.specs.Journal.{Entry, Journal, Stand, nothing, first_key,
 use Rattle.public_fold.specs.Journal.Entry.{Session, Made, Did, Upgraded}
 use Rattle.public_fold.specs.Keyed.{KeysHold, links_of}
 use Rattle.public_fold.specs.KeyStep.{KeyState, Stepped, is_strict, no_keys, next_epoch, newest, next_serial, keys_then, renewed, given, published_edges, published, step_with, key_step}
+use Rattle.public_fold.specs.Lengths.{end_of}
 use Rattle.public_fold.specs.Records.{Content, pieces_of, sealing_role}
 use Rattle.public_fold.specs.StandFits.{all_fit}
-use Rattle.public_fold.specs.Valid.{FollowOn, BeginsWell, IsValid}
+use Rattle.public_fold.specs.Valid.{BeginsWell, IsValid}
 use Rattle.public_fold.proofs.AllFit.{journal_all_fit}
 use Rattle.public_fold.proofs.KeepingKeys.{IsMove}
 use Rattle.public_fold.proofs.Prefixes.{stand_after-append}
 use Rattle.public_fold.proofs.KeyMoves.{root_moves, upgrade_moves, nothing_holds}
+use Rattle.public_fold.proofs.Numbers.{within_made}
 use Rattle.closure_laws.specs.Gains.{IsWritten, IsGain}
 use Rattle.closure_laws.specs.History.{published_from, history, trails, own_serial, Derives, DerivesFor}
 use Rattle.closure_laws.specs.Secrecy.{IsShownNode, node_of_piece, GainsLater, KeepsSecret}
@@ -36,7 +37,7 @@ use Rattle.secrecy_laws.specs.Revocation.{OpensContent, GainOpens, OpensByGain}
 use Rattle.secrecy_laws.proofs.KeySteps.{source_clean, keyed_present}
 use Rattle.secrecy_laws.proofs.Departing.{Departing, session_departs, did_departs, upgraded_departs, made_departs, journal_departs}
 use Rattle.secrecy_laws.proofs.Sealing.{IsSealedPiece, IsDueRole, pieces_sealed, sealed_due, sealed_stands, reached_shown, content_told}
-use Rattle.secrecy_laws.proofs.Journals.{Kept, moves, made_stand, made_past, made_fit, did_count, upgraded_count, session_fit, OpensFrom, later_opens, first_below}
+use Rattle.secrecy_laws.proofs.Journals.{Follow, IsDone, Kept, follow_within, moves, made_stand, made_past, made_fit, did_count, upgraded_count, session_fit, OpensFrom, later_opens, first_below}
 
 due_source : (c : Change) (r : Role) → IsDueRole c r → (is_root_role r ≡ true) ⊎ (In r c.wanted ⊎ In r c.fresh)
 unfolding is_root_role Rattle.role_graph.specs.Roles.variant_of
@@ -65,7 +66,7 @@ step_seals s t k note p mv ok below c i =
       sealed = sealed;
     }
 
-did_seals : (at : Stand) (p : Past) (request : Request) (keys : List (List ℕ)) → Kept at p → refusal_of at.store request most_file_bytes ≡ None
+did_seals : (at : Stand) (p : Past) (request : Request) (keys : List (List ℕ)) → Kept at p → IsDone at request
     → (c : Content) → In c (entry_step at (Did request keys)).contents → IsSealedAt (stand_then at (Did request keys)) c
 unfolding stand_then entry_store entry_step note_step
 did_seals at p request keys ok e c i =
@@ -86,12 +87,12 @@ made_seals version keys c i =
 -- what an entry writes is sealed where the entry leaves the store, and the entries that follow may come there
 pub record IsWrittenAt (at : Stand) (p : Past) (later : List Entry) (c : Content) : Type 0 where
   pub departs : Departing at p
-  pub follow : FollowOn at later
+  pub follow : Follow at later
   pub fit : all_fit at later ≡ true
   pub seals : IsSealedAt at c
 
 from_stand : (before : List Entry) (at : Stand) (p : Past) (entry : Entry) (later : List Entry) (c : Content)
-    → Departing at p → FollowOn at (before ++ entry ∷ later) → all_fit at (before ++ entry ∷ later) ≡ true
+    → Departing at p → Follow at (before ++ entry ∷ later) → all_fit at (before ++ entry ∷ later) ≡ true
     → In c (entry_step (stand_after at before) entry).contents
     → IsWrittenAt (stand_after at (before ++ entry ∷ [])) (past_after at p (before ++ entry ∷ [])) later c
 unfolding stand_after past_after
@@ -99,7 +100,7 @@ from_stand [] at p Session later c ok f t i = absurd (unfold entry_step in i)
 from_stand [] at p (Made version keys) later c ok f t i = absurd f.0
 from_stand [] at p (Did request keys) later c ok f t i =
     let w = did_count at request keys later t in
-    record { departs = did_departs at p request keys ok f.0.0 w.0; follow = f.1; fit = w.1; seals = did_seals at p request keys ok.kept f.0.0 c i }
+    record { departs = did_departs at p request keys ok f.0 w.0; follow = f.1; fit = w.1; seals = did_seals at p request keys ok.kept f.0 c i }
 from_stand [] at p (Upgraded keys) later c ok f t i =
     let w = upgraded_count at keys later t in
     record { departs = upgraded_departs at p keys ok w.0; follow = f.1; fit = w.1; seals = upgraded_seals at p keys ok.kept c i }
@@ -108,40 +109,41 @@ from_stand (Session ∷ before) at p entry later c ok f t i =
 from_stand (Made version keys ∷ before) at p entry later c ok f t i = absurd f.0
 from_stand (Did request keys ∷ before) at p entry later c ok f t i =
     let w = did_count at request keys (before ++ entry ∷ later) t in
-    from_stand before (stand_then at (Did request keys)) (past_entry at p (Did request keys)) entry later c (did_departs at p request keys ok f.0.0 w.0) f.1 w.1 i
+    from_stand before (stand_then at (Did request keys)) (past_entry at p (Did request keys)) entry later c (did_departs at p request keys ok f.0 w.0) f.1 w.1 i
 from_stand (Upgraded keys ∷ before) at p entry later c ok f t i =
     let w = upgraded_count at keys (before ++ entry ∷ later) t in
     from_stand before (stand_then at (Upgraded keys)) (past_entry at p (Upgraded keys)) entry later c (upgraded_departs at p keys ok w.0) f.1 w.1 i
 
 from_nothing : (before : List Entry) (entry : Entry) (later : List Entry) (c : Content)
-    → BeginsWell (before ++ entry ∷ later) → all_fit nothing (before ++ entry ∷ later) ≡ true
+    → BeginsWell (before ++ entry ∷ later) → end_of (before ++ entry ∷ later) ≤ most_store_bytes → all_fit nothing (before ++ entry ∷ later) ≡ true
     → In c (entry_step (stand_after nothing before) entry).contents
     → IsWrittenAt (stand_after nothing (before ++ entry ∷ [])) (past_after nothing no_past (before ++ entry ∷ [])) later c
 unfolding stand_after past_after past_entry
-from_nothing [] Session later c b t i = absurd (unfold entry_step in i)
-from_nothing [] (Made version keys) later c b t i = absurd b
-from_nothing [] (Did request keys) later c b t i = absurd b
-from_nothing [] (Upgraded keys) later c b t i = absurd b
-from_nothing (Session ∷ []) Session later c b t i = absurd b
-from_nothing (Session ∷ []) (Made version keys) later c b t i =
+from_nothing [] Session later c b low t i = absurd (unfold entry_step in i)
+from_nothing [] (Made version keys) later c b low t i = absurd b
+from_nothing [] (Did request keys) later c b low t i = absurd b
+from_nothing [] (Upgraded keys) later c b low t i = absurd b
+from_nothing (Session ∷ []) Session later c b low t i = absurd b
+from_nothing (Session ∷ []) (Made version keys) later c b low t i =
     let w = made_fit version keys later t in
-    record { departs = made_departs version keys w.0; follow = b.1; fit = w.1; seals = made_seals version keys c i }
-from_nothing (Session ∷ []) (Did request keys) later c b t i = absurd b
-from_nothing (Session ∷ []) (Upgraded keys) later c b t i = absurd b
-from_nothing (Session ∷ Session ∷ before) entry later c b t i = absurd b
-from_nothing (Session ∷ Made version keys ∷ before) entry later c b t i =
+    record { departs = made_departs version keys w.0; follow = follow_within later (made_stand version keys) b.1 (within_made version keys later low); fit = w.1; seals = made_seals version keys c i }
+from_nothing (Session ∷ []) (Did request keys) later c b low t i = absurd b
+from_nothing (Session ∷ []) (Upgraded keys) later c b low t i = absurd b
+from_nothing (Session ∷ Session ∷ before) entry later c b low t i = absurd b
+from_nothing (Session ∷ Made version keys ∷ before) entry later c b low t i =
     let w = made_fit version keys (before ++ entry ∷ later) t in
-    from_stand before (made_stand version keys) (made_past version keys) entry later c (made_departs version keys w.0) b.1 w.1 i
-from_nothing (Session ∷ Did request keys ∷ before) entry later c b t i = absurd b
-from_nothing (Session ∷ Upgraded keys ∷ before) entry later c b t i = absurd b
-from_nothing (Made version keys ∷ before) entry later c b t i = absurd b
-from_nothing (Did request keys ∷ before) entry later c b t i = absurd b
-from_nothing (Upgraded keys ∷ before) entry later c b t i = absurd b
+    from_stand before (made_stand version keys) (made_past version keys) entry later c (made_departs version keys w.0)
+    (follow_within (before ++ entry ∷ later) (made_stand version keys) b.1 (within_made version keys (before ++ entry ∷ later) low)) w.1 i
+from_nothing (Session ∷ Did request keys ∷ before) entry later c b low t i = absurd b
+from_nothing (Session ∷ Upgraded keys ∷ before) entry later c b low t i = absurd b
+from_nothing (Made version keys ∷ before) entry later c b low t i = absurd b
+from_nothing (Did request keys ∷ before) entry later c b low t i = absurd b
+from_nothing (Upgraded keys ∷ before) entry later c b low t i = absurd b
 
 pub written_at : (before : List Entry) (entry : Entry) (later : List Entry) (c : Content) → IsValid (before ++ entry ∷ later) → IsWritten before entry c
     → IsWrittenAt (stand_after nothing (before ++ entry ∷ [])) (past_of (before ++ entry ∷ [])) later c
 unfolding past_of
-written_at before entry later c v i = from_nothing before entry later c v.0 (journal_all_fit (before ++ entry ∷ later) v) i
+written_at before entry later c v i = from_nothing before entry later c v.0 v.1 (journal_all_fit (before ++ entry ∷ later) v) i
 
 -- the links of the past are the trails of the history
 past_links : (entries : List Entry) (at : Stand) (p : Past) → (past_after at p entries).links ≡ p.links ++ links_of (steps_from at entries)

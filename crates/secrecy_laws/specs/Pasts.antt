@@ -96,7 +96,8 @@ turns_of at p (Session ∷ entries) = turns_of (stand_then at Session) p entries
 turns_of at p (Made version keys ∷ entries) = []
 turns_of at p (Did request keys ∷ entries) =
     record {
-      move = move_of (edges at.store) (change_of (is_strict at.keys) at.store (note_of at.store request [])) (entry_step at (Did request keys));
+      move = move_of (edges at.store)
+          (change_of (is_strict at.keys) at.store (note_of at.store request [])) (entry_step at (Did request keys));
       after = state_of (stand_then at (Did request keys)) (past_entry at p (Did request keys));
     } ∷ turns_of (stand_then at (Did request keys)) (past_entry at p (Did request keys)) entries
 turns_of at p (Upgraded keys ∷ entries) =

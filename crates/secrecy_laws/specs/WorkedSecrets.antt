@@ -37,14 +37,8 @@ file_leaked = other_granted ++ the_leak ∷ []
 unfoldable pub the_contents : List Content
 the_contents = (entry_step (stand_after nothing folders_made) the_write).contents
 
--- the same departure as in "strict departure", in a store of version 1: the file moves, and no key of its old folder is renewed
-unfoldable pub departing_lazily : Journal
-departing_lazily = fresh ++ (Session ∷ does 5 (MakeFolder (codes "/a")) ∷ does 5 (MakeFolder (codes "/b"))
-    ∷ does 1 (WriteFile (codes "/a/x") (0 ∷ [])) ∷ does 0 (Relocate (codes "/a/x") (codes "/b")) ∷ does 1 AddHolder
-    ∷ does 0 (Grant 1 (codes "/a")) ∷ [])
-
 -- every word of a journal's secrets
 unfoldable pub secrets : Unit {0}
 unfolding histories is_unseen unseen_from derived_unseen brings_role opens_content gain_opens folders_made the_write the_grant the_leak
-    file_written other_granted file_leaked the_contents departing_lazily
+    file_written other_granted file_leaked the_contents
 secrets = tt

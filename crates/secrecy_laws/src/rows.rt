@@ -3,11 +3,13 @@ ghost use Rattle.std.specs.Prelude.{◌≡◌, [], ◌∷◌, ◌++◌, codes, f
 ghost use Rattle.cry_base.specs.Requests.Request.{Grant, MakeFolder, Relocate};
 ghost use Rattle.closure_laws.specs.Gains.{gains_from};
 ghost use Rattle.closure_laws.specs.Secrecy.{keeps_secret};
+ghost use Rattle.closure_laws.specs.WorkedHistories.{departing_lazily};
 ghost use Rattle.public_fold.specs.Journal.{nothing, stand_after};
 ghost use Rattle.public_fold.specs.WorkedSteps.{departing_strictly, does, granting, moving_strictly, revoking, writing_again};
+ghost use Rattle.public_fold.specs.WorkedSteps.{granting_file, keeping_file, revoking_file};
 ghost use Rattle.role_graph.specs.Roles.{clear_of};
 ghost use Rattle.secrecy_laws.specs.Revocation.{brings_role, derived_unseen, gain_opens};
-ghost use Rattle.secrecy_laws.specs.WorkedSecrets.{departing_lazily, file_leaked, file_written, other_granted, the_contents};
+ghost use Rattle.secrecy_laws.specs.WorkedSecrets.{file_leaked, file_written, other_granted, the_contents};
 ghost use Rattle.secrecy_laws.specs.WorkedSecrets.{the_grant, the_leak};
 
 /// A grant opens what was written in its folder before: the root's name, the folder's and the file. A revocation adds nothing to it,
@@ -19,6 +21,15 @@ pub fn a_grant_opens_what_was_written_before()
     ensures written { map (λ c. c.piece.name) (derived_unseen writing_again 1) ≡ [] ∷ codes "a" ∷ codes "x" ∷ [] }
     ensures new_holder { map (λ c. c.piece.name) (derived_unseen writing_again 2) ≡ [] ∷ codes "a" ∷ codes "x" ∷ codes "x" ∷ [] }
     ensures stranger { derived_unseen granting 2 ≡ [] }
+{}
+
+/// So does a grant on the file itself, and a revocation adds nothing to it either.
+#[tactic(auto, unfolding(crate::specs::WorkedSecrets::secrets))]
+pub fn a_grant_on_a_file_opens_what_was_written_before()
+    ensures granted { map (λ c. c.piece.name) (derived_unseen granting_file 2) ≡ [] ∷ codes "a" ∷ codes "x" ∷ [] }
+    ensures revoked { map (λ c. c.piece.name) (derived_unseen revoking_file 2) ≡ [] ∷ codes "a" ∷ codes "x" ∷ [] }
+    ensures of_the_folder { map (λ c. c.piece.name) (derived_unseen keeping_file 1) ≡ [] ∷ codes "a" ∷ codes "x" ∷ [] }
+    ensures kept { map (λ c. c.piece.name) (derived_unseen keeping_file 2) ≡ [] ∷ codes "a" ∷ codes "x" ∷ [] }
 {}
 
 /// So does a move into what is granted.
