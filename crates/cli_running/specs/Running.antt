@@ -44,15 +44,27 @@ HandsInFirst typed key = key_in_lines (lines_in typed) ≡ Some key
 
 -- how `run` may end
 abbrev pub is_run_answer : Status → Bool
+is_run_answer statuses.Done = true
 is_run_answer statuses.Usage = false
+is_run_answer (statuses.BadScript line) = true
+is_run_answer statuses.ReadFault = true
+is_run_answer statuses.WriteFault = true
+is_run_answer statuses.DiskFault = true
+is_run_answer statuses.RandomFault = true
+is_run_answer (statuses.RandomShort left need) = true
+is_run_answer statuses.NotAStore = true
+is_run_answer (statuses.Damaged at) = true
+is_run_answer statuses.WrongKey = true
+is_run_answer (statuses.Tampered batch at) = true
+is_run_answer statuses.OutOfMemory = true
 is_run_answer statuses.NotBlank = false
 is_run_answer (statuses.NoHolder known) = false
 is_run_answer statuses.Unseen = false
+is_run_answer statuses.NeedsUpgrade = true
 is_run_answer statuses.AlreadyNew = false
 is_run_answer (statuses.Behind have want) = false
 is_run_answer (statuses.Forked batches) = false
 is_run_answer statuses.BadProof = false
-is_run_answer _ = true
 
 -- how it ends before it opens the store
 abbrev pub is_before_opening : Status → Bool

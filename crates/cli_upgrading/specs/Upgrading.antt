@@ -31,15 +31,27 @@ pub record HandedIn {S : Type 0} (inputs : source.Ghosts S) (key : List ℕ) (fi
 
 -- how `upgrade` may end
 abbrev pub is_upgrade_answer : Status → Bool
+is_upgrade_answer statuses.Done = true
 is_upgrade_answer statuses.Usage = false
+is_upgrade_answer (statuses.BadScript line) = true
+is_upgrade_answer statuses.ReadFault = true
+is_upgrade_answer statuses.WriteFault = true
+is_upgrade_answer statuses.DiskFault = true
+is_upgrade_answer statuses.RandomFault = true
+is_upgrade_answer (statuses.RandomShort left need) = true
+is_upgrade_answer statuses.NotAStore = true
+is_upgrade_answer (statuses.Damaged at) = true
+is_upgrade_answer statuses.WrongKey = true
+is_upgrade_answer (statuses.Tampered batch at) = true
+is_upgrade_answer statuses.OutOfMemory = true
 is_upgrade_answer statuses.NotBlank = false
 is_upgrade_answer (statuses.NoHolder known) = false
 is_upgrade_answer statuses.Unseen = false
 is_upgrade_answer statuses.NeedsUpgrade = false
+is_upgrade_answer statuses.AlreadyNew = true
 is_upgrade_answer (statuses.Behind have want) = false
 is_upgrade_answer (statuses.Forked batches) = false
 is_upgrade_answer statuses.BadProof = false
-is_upgrade_answer _ = true
 
 -- how it ends before it opens the store
 abbrev pub is_before_opening : Status → Bool

@@ -22,13 +22,27 @@ use Rattle.cli_running.specs.Running.{FirstIsBad, ReadsWholeTyped, TakesTo, key_
 
 -- how a run with a head may end
 abbrev pub is_held_run_answer : Status → Bool
+is_held_run_answer statuses.Done = true
 is_held_run_answer statuses.Usage = false
+is_held_run_answer (statuses.BadScript line) = true
+is_held_run_answer statuses.ReadFault = true
+is_held_run_answer statuses.WriteFault = true
+is_held_run_answer statuses.DiskFault = true
+is_held_run_answer statuses.RandomFault = true
+is_held_run_answer (statuses.RandomShort left need) = true
+is_held_run_answer statuses.NotAStore = true
+is_held_run_answer (statuses.Damaged at) = true
+is_held_run_answer statuses.WrongKey = true
+is_held_run_answer (statuses.Tampered batch at) = true
+is_held_run_answer statuses.OutOfMemory = true
 is_held_run_answer statuses.NotBlank = false
 is_held_run_answer (statuses.NoHolder known) = false
 is_held_run_answer statuses.Unseen = false
+is_held_run_answer statuses.NeedsUpgrade = true
 is_held_run_answer statuses.AlreadyNew = false
+is_held_run_answer (statuses.Behind have want) = true
+is_held_run_answer (statuses.Forked batches) = true
 is_held_run_answer statuses.BadProof = false
-is_held_run_answer _ = true
 
 -- It ended at its first line: that hands in no key, or the input failed before it ended, or memory was wanting.
 pub record EndsAtFirst {S R D W : Type 0} (see : Senses S R D W) (status : Status) (before after : World S R D W) : Type 0 where

@@ -24,13 +24,27 @@ use Rattle.cli_upgrading.specs.Upgrading.{HandsInAlone, TakesAlone, is_at_input}
 
 -- how an upgrade with a head may end
 abbrev pub is_held_upgrade_answer : Status → Bool
+is_held_upgrade_answer statuses.Done = true
 is_held_upgrade_answer statuses.Usage = false
+is_held_upgrade_answer (statuses.BadScript line) = true
+is_held_upgrade_answer statuses.ReadFault = true
+is_held_upgrade_answer statuses.WriteFault = true
+is_held_upgrade_answer statuses.DiskFault = true
+is_held_upgrade_answer statuses.RandomFault = true
+is_held_upgrade_answer (statuses.RandomShort left need) = true
+is_held_upgrade_answer statuses.NotAStore = true
+is_held_upgrade_answer (statuses.Damaged at) = true
+is_held_upgrade_answer statuses.WrongKey = true
+is_held_upgrade_answer (statuses.Tampered batch at) = true
+is_held_upgrade_answer statuses.OutOfMemory = true
 is_held_upgrade_answer statuses.NotBlank = false
 is_held_upgrade_answer (statuses.NoHolder known) = false
 is_held_upgrade_answer statuses.Unseen = false
 is_held_upgrade_answer statuses.NeedsUpgrade = false
+is_held_upgrade_answer statuses.AlreadyNew = true
+is_held_upgrade_answer (statuses.Behind have want) = true
+is_held_upgrade_answer (statuses.Forked batches) = true
 is_held_upgrade_answer statuses.BadProof = false
-is_held_upgrade_answer _ = true
 
 -- It ended at its input: that hands in no key, or it failed before it was judged, or memory was wanting.
 pub record EndsAtInput {S R D W : Type 0} (see : Senses S R D W) (status : Status) (before after : World S R D W) : Type 0 where
