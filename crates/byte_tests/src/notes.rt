@@ -10,6 +10,9 @@ const FILE: FileId = FileId(0x0102_0304);
 
 const FOLDER: FolderId = FolderId(5);
 
+// The file's number in grants.
+const CLEARANCE: FolderId = FolderId(0x8102_0304);
+
 const HOLDER: HolderId = HolderId(6);
 
 const PLACE: FolderId = FolderId(7);
@@ -20,7 +23,7 @@ const NEW_HOLDER: [u8; 37] = [
     0xab, 0xab, 0xab,
 ];
 
-const NOTES: [(Note, &[u8]); 15] = [
+const NOTES: [(Note, &[u8]); 17] = [
     (Note::Root, &[1]),
     (
         Note::NewHolder {
@@ -75,6 +78,20 @@ const NOTES: [(Note, &[u8]); 15] = [
             folder: FOLDER,
         },
         &[13, 0, 0, 0, 6, 0, 0, 0, 5],
+    ),
+    (
+        Note::Give {
+            holder: HOLDER,
+            folder: CLEARANCE,
+        },
+        &[12, 0, 0, 0, 6, 0x81, 2, 3, 4],
+    ),
+    (
+        Note::Take {
+            holder: HOLDER,
+            folder: CLEARANCE,
+        },
+        &[13, 0, 0, 0, 6, 0x81, 2, 3, 4],
     ),
     (Note::StrictRoot, &[14]),
     (Note::Upgrade, &[15]),

@@ -2,7 +2,7 @@
 ghost use Rattle.std.specs.Prelude;
 
 use crate::stores::Store;
-use cry_base::{Edge, FolderId, HolderId, Role};
+use cry_base::{Edge, FileId, FolderId, HolderId, Role};
 use role_graph::{allowed, named, reach};
 use std::test::Fail;
 
@@ -87,6 +87,47 @@ fn a_grant_leads_to_its_folder_and_to_the_names_above(rt: HostRuntime) -> Result
     for (f, is_allowed, is_named) in [(1, false, true), (3, true, true), (4, false, false)] {
         let f = FolderId(f);
         assert_eq!(rt; allowed(&store.shape, &store.grants, HOLDER, f), is_allowed);
+        assert_eq!(rt; named(&store.shape, &store.grants, HOLDER, f), is_named);
+    }
+    Ok(())
+}
+
+// The clearance number of file 1.
+const CLEARANCE: FolderId = FolderId(2_147_483_649);
+
+const LED_TO_FILE: [Role; 7] = [
+    Role::Holder(HOLDER),
+    Role::Clear(CLEARANCE),
+    Role::Back(FolderId(1)),
+    Role::Back(FolderId(2)),
+    Role::Data(FolderId(1)),
+    Role::Data(FolderId(2)),
+    Role::File(FileId(1)),
+];
+
+const FILE_EDGES: [(u8, u32, u32); 4] = [
+    (1, 0, CLEARANCE.0),
+    (2, 1, CLEARANCE.0),
+    (10, CLEARANCE.0, 1),
+    (11, CLEARANCE.0, 2),
+];
+
+// Folders /a and /a/b, files /a/x and /a/y, and a grant on /a/x alone.
+#[test]
+fn a_grant_on_a_file_leads_to_it_and_to_the_names_above(rt: HostRuntime) -> Result<(), Fail> {
+    let store = Store::new(rt.alloc(), &[1, 2], &[2, 2], &[(1, CLEARANCE.0)])?;
+    let edges = store.edges(rt.alloc())?;
+    let at_clearance = edges
+        .as_slice()
+        .iter()
+        .map(digits_of)
+        .filter(|d| d.1 == CLEARANCE.0 || d.2 == CLEARANCE.0);
+    assert!(rt; at_clearance.eq(FILE_EDGES));
+    let keys = reach(rt.alloc(), edges.as_slice(), Role::Holder(HOLDER))?;
+    assert_eq!(rt; keys.as_slice(), LED_TO_FILE.as_slice());
+    for (f, is_named) in [(1, true), (2, true), (3, false)] {
+        let f = FolderId(f);
+        assert_eq!(rt; allowed(&store.shape, &store.grants, HOLDER, f), false);
         assert_eq!(rt; named(&store.shape, &store.grants, HOLDER, f), is_named);
     }
     Ok(())

@@ -1,10 +1,12 @@
 //! Small stores, from tables.
 ghost use Rattle.std.specs.Prelude;
+ghost use Rattle.role_graph.specs.PublicStore.{FoldersBelow};
 
 use cry_base::{Edge, FileId, FolderId, HolderId, List};
 use folder_nodes::{FileRow, FolderRow, Shape};
 use grant_book::Grants;
 use role_graph::edges;
+use role_graph::key_laws::few_folders_are_below;
 use std::alloc::Global;
 use std::test::Fail;
 
@@ -12,6 +14,7 @@ use std::test::Fail;
 pub(crate) struct Store {
     pub(crate) shape: Shape,
     pub(crate) grants: Grants,
+    ghost below: { FoldersBelow shape.tree },
 }
 
 impl Store {
@@ -28,6 +31,7 @@ impl Store {
             Some(shape) => shape,
             None => Shape::new(alloc),
         };
+        few_folders_are_below(&shape);
         let grants = book(alloc, given)?;
         Ok(Store { shape, grants })
     }
