@@ -3,15 +3,19 @@ import fcntl
 import glob
 import json
 import os
+import random
 import shutil
 import stat
 
 from front_calls import Paused, expect_told, front, keys_of, program_that, started
 from harness import read
 
+LARGE = random.Random("a large file").randbytes(1_100_000)     # in a store it's one in parts
+
 
 def all_keys(check):
-    for part in (making, init_that_is_killed, sharing, locks, older_copies, exchanged, stopped_holder, renewed):
+    for part in (making, init_that_is_killed, sharing, files_granted, forms_granted, stopped_in_a_granted_file, locks, older_copies,
+                 exchanged, stopped_holder, renewed):
         part(check)
 
 
@@ -104,6 +108,120 @@ def sharing(check):
     check.call([store, "/dev/urandom", "run"], owner + b"grant 1 /\n")
     expect_told(check, "a grant by the program", front(check, store, "who"), 1, "otherwise than is recorded")
     check.expect("no key is printed", owner[6:70] in b"".join(front(check, store, "who", "--json")[1:]), False)
+
+
+def files_granted(check):
+    """Grants on single files, small ones and one in parts: who reads them, as they are and in a new store."""
+    store, folder = fresh(check, "files.store"), os.path.join(check.folder, "granted files")
+    os.makedirs(os.path.join(folder, "in"))
+    for name, data in (("My report", b"one"), ("large", LARGE), ("beside", b"two"), ("in/other", b"three")):
+        check.put(os.path.join("granted files", name), data)
+    done(check, "put", front(check, store, "put", folder, "/trip"))
+    for name in ("ann", "ben"):
+        done(check, "holder add", front(check, store, "holder", "add", name))
+    for name, path in (("ann", "/trip/My report"), ("ann", "/trip/large"), ("ben", "/trip"), ("ben", "/trip/large")):
+        done(check, f"grant on {path}", front(check, store, "grant", name, path))
+    expect_told(check, "a grant on a file that stands", front(check, store, "grant", "ann", "/trip/large"), 1, "has-grant")
+    expect_told(check, "a grant on no file", front(check, store, "grant", "ann", "/trip/none"), 1, "no-path")
+    files_are_read(check, store)
+    renewed_store = os.path.join(check.folder, "new files.store")
+    done(check, "renew", front(check, store, "renew", renewed_store))
+    files_are_read(check, renewed_store)
+    files_change(check, store, folder)
+
+
+def files_are_read(check, store):
+    """What is told of the grants on files, and what the holder of two of them is shown."""
+    for path, due in (("/trip", ["ben"]), ("/trip/large", ["ann", "ben"]), ("/trip/My report", ["ann", "ben"]), ("/trip/in", ["ben"])):
+        names = [entry["name"] for entry in json.loads(done(check, "who", front(check, store, "who", path, "--json")))]
+        check.expect(f"who reads {path}", names, due)
+    check.expect("grants on files", granted_in(check, store), {"/trip": ["ben"], "/trip/My report": ["ann"], "/trip/large": ["ann", "ben"]})
+    listed = done(check, "ls", front(check, store, "ls", "-R", "/", "--as", "ann"))
+    check.expect("what the holder of two files is shown", listed, b"trip/\ntrip/My report\ntrip/large\n")
+    check.expect("and reads", done(check, "cat", front(check, store, "cat", "/trip/large", "--as", "ann")), LARGE)
+
+
+def files_change(check, store, folder):
+    """A granted file is renamed, granted anew, changed, and grows, and a grant on one is taken back."""
+    os.rename(os.path.join(folder, "My report"), os.path.join(folder, "report"))
+    expect_told(check, "put renamed", front(check, store, "put", folder, "/trip"), 0, "the grant of ann on /trip/My report went with it")
+    done(check, "granted anew", front(check, store, "grant", "ann", "/trip/report"))
+    check.put(os.path.join("granted files", "report"), b"four")
+    done(check, "put changed", front(check, store, "put", folder, "/trip"))
+    check.expect("the grant stays", done(check, "cat", front(check, store, "cat", "/trip/report", "--as", "ann")), b"four")
+    done(check, "revoke", front(check, store, "revoke", "ann", "/trip/large"))
+    check.expect("what is left", done(check, "ls", front(check, store, "ls", "-R", "/", "--as", "ann")), b"trip/\ntrip/report\n")
+    check.put(os.path.join("granted files", "report"), LARGE)
+    for words, due in ((["--dry-run"], b"ann's grant on it would go too"), ([], b"the grant of ann on /trip/report went with it")):
+        came = front(check, store, "put", folder, "/trip", *words)
+        check.expect(f"a file that grew {words}", (came[0], due in came[2]), (0, True))
+    names = [entry["name"] for entry in json.loads(done(check, "who", front(check, store, "who", "/trip/report", "--json")))]
+    check.expect("nobody is left", names, ["ben"])
+
+
+def granted_in(check, store):
+    """Who is told to have a grant on what."""
+    return {entry["path"]: entry["names"] for entry in json.loads(done(check, "grants", front(check, store, "grants", "--json")))}
+
+
+def forms_granted(check):
+    """Files of one template: where one goes and another comes, or two get other names, none gets another's grant, and what went is told."""
+    store, folder = fresh(check, "forms.store"), os.path.join(check.folder, "forms")
+    os.mkdir(folder)
+    for name in ("form-ann", "form-nobody"):
+        check.put(os.path.join("forms", name), b"a template")
+    done(check, "put", front(check, store, "put", folder, "/trip"))
+    for name in ("ann", "ben"):
+        done(check, "holder add", front(check, store, "holder", "add", name))
+    done(check, "grant", front(check, store, "grant", "ann", "/trip/form-ann"))
+    os.rename(os.path.join(folder, "form-ann"), os.path.join(folder, "form-ben"))
+    expect_lost(check, "a form of another", store, folder, ["ann"])
+    expect_told(check, "who had a form", front(check, store, "cat", "/trip/form-ben", "--as", "ann"), 1, "nothing that this key opens")
+    os.rename(os.path.join(folder, "form-nobody"), os.path.join(folder, "form-cy"))
+    check.expect("a form of nobody's is renamed", b"1 renamed" in done(check, "put", front(check, store, "put", folder, "/trip")), True)
+    done(check, "grant", front(check, store, "grant", "ben", "/trip/form-ben"))
+    check.put(os.path.join("forms", "form-ann"), b"a template")
+    done(check, "put", front(check, store, "put", folder, "/trip"))
+    done(check, "grant", front(check, store, "grant", "ann", "/trip/form-ann"))
+    for old, new in (("form-ann", "z"), ("form-ben", "c")):
+        os.rename(os.path.join(folder, old), os.path.join(folder, new))
+    expect_lost(check, "two forms with other names", store, folder, ["ann", "ben"])
+
+
+def expect_lost(check, what, store, folder, names):
+    """That this put tells each of these holders' grants on their forms as gone, would tell it, and leaves no grant."""
+    for words, due in ((["--dry-run"], "/trip/form-{0} is gone, and {0}'s grant on it would go too"),
+                       ([], "the grant of {0} on /trip/form-{0} went with it")):
+        came = front(check, store, "put", folder, "/trip", *words)
+        missing = [name for name in names if due.format(name).encode() not in came[2]]
+        check.expect(f"{what} {words}", (came[0], len(came[2].splitlines()), missing), (0, len(names), []))
+    check.expect(f"{what}: who is granted", granted_in(check, store), {})
+
+
+def stopped_in_a_granted_file(check):
+    """Grants on a large file that a put was stopped in: one is taken back and one given before the next put finishes it."""
+    store, folder = fresh(check, "half.store"), os.path.join(check.folder, "half")
+    os.mkdir(folder)
+    check.put(os.path.join("half", "large"), LARGE)
+    done(check, "put", front(check, store, "put", folder, "/trip"))
+    for name in ("ann", "ben"):
+        done(check, "holder add", front(check, store, "holder", "add", name))
+    done(check, "grant", front(check, store, "grant", "ann", "/trip/large"))
+    check.put(os.path.join("half", "large"), LARGE[::-1])
+    room = os.path.getsize(store) + 100_000     # for a renaming, and for no part of the file
+    stopped = program_that(check, "stopped", f'ulimit -f {room // 512}; exec "{check.program}" "$@"')
+    came = front(check, store, "put", folder, "/trip", program=stopped)
+    check.expect("a put that is stopped", (came[0], b"was ended by signal" in came[2]), (1, True))
+    check.expect("it's half", b"/trip/large-.half" in read(key_file(check, store, "holders.json")), True)
+    done(check, "revoke", front(check, store, "revoke", "ann", "/trip/large"))
+    check.expect("nobody is granted it", granted_in(check, store), {})
+    done(check, "grant", front(check, store, "grant", "ben", "/trip/large"))
+    empty = os.path.join(check.folder, "empty")
+    os.mkdir(empty)
+    expect_told(check, "half and gone", front(check, store, "put", empty, "/trip", "--dry-run"), 0, "/trip/large is gone, and ben's grant")
+    done(check, "put again", front(check, store, "put", folder, "/trip"))
+    check.expect("who reads it then", granted_in(check, store), {"/trip/large": ["ben"]})
+    check.expect("and what", done(check, "cat", front(check, store, "cat", "/trip/large", "--as", "ben")), LARGE[::-1])
 
 
 def locks(check):

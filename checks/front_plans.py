@@ -1,5 +1,6 @@
 """The lines that `put` makes of random folders, over a plain store that refuses what the program refuses: none is refused, at their end
-the folder comes back from a listing, and a stop leaves whole files, or ones that are told as half; the next put finishes it."""
+the folder comes back from a listing, and a stop leaves whole files, or ones that are told as half; the next put finishes it. No file that
+is granted is renamed."""
 import dataclasses
 import os
 import random
@@ -54,8 +55,8 @@ def folder(depth=0):
     return node
 
 
-def plan_for(store, wanted, names):
-    return plan.Plan(units.Standing(listed.core_tree(store.listing()), names), units.Wanted(wanted, names))
+def plan_for(store, wanted, names, granted=()):
+    return plan.Plan(units.Standing(listed.core_tree(store.listing()), names), units.Wanted(wanted, names), granted)
 
 
 def done(store, lines, wrong):
@@ -69,7 +70,10 @@ def done(store, lines, wrong):
 def one_put(store, wanted, names, wrong):
     """A put that may be stopped some times before it is done."""
     while True:
-        lines = list(plan_for(store, wanted, names).lines())
+        granted = {path.decode() for path in store.nodes if not RANDOM.randrange(4)}
+        found = plan_for(store, wanted, names, granted)
+        lines = list(found.lines())
+        wrong += [source for source, _ in found.renamed if source in granted and found.before[source] is not None]
         stop = RANDOM.randrange(2 * len(lines) + 1)
         done(store, lines[:stop], wrong)
         if stop >= len(lines) or wrong:
@@ -110,7 +114,7 @@ def folders_that_keep_their_grants(check):
             found = plan_for(store, new, [])
             lines = list(found.lines())
             done(store, lines, [])
-            check.expect(f"a folder renamed with {data}", (lines if due else None, store.grants, found.gone_folders), (
+            check.expect(f"a folder renamed with {data}", (lines if due else None, store.grants, found.gone & {"/old", "/old/in", "/g"}), (
                 due, {(1, b"/new")} if due else set(), set() if due else {"/old", "/old/in"}))
             check.expect("what is counted", [found.counts()[word] for word in ("new", "changed", "renamed", "gone", "same")],
                          [0, 0, 1, 0, 3] if due else [3, 0, 0, 3, 1])

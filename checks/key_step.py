@@ -1,16 +1,18 @@
 """The key step of docs/FORMAT.md: what everybody can see of a store, which notes fit, and which keys and records each of them gives. The
 store's version is part of what everybody can see.
 
-A role is a pair of one of the kinds below and an id; an edge is a link's kind with the ids of its source and its target.
+A role is a pair of one of the kinds below and an id; an edge is a link's kind with the ids of its source and its target. Where a grant
+names a file it does so by the file's clearance number, which is CLEARANCES and its number; Clear of that number stands while the file has a
+grant.
 """
 from collections import defaultdict, namedtuple
 
-DEPTH, FILE_LIMIT = 64, 1_048_576
+DEPTH, FILE_LIMIT, CLEARANCES = 64, 1_048_576, 1 << 31
 
 OWNER, HOLDER, CLEAR, SUB, BACK, FILES, DATA, FILE = range(8)  # in their order
 FOLDER_ROLES = (CLEAR, SUB, BACK, FILES, DATA)
 LINKS = {1: (OWNER, CLEAR), 2: (HOLDER, CLEAR), 3: (CLEAR, SUB), 4: (SUB, BACK), 5: (SUB, FILES), 6: (SUB, SUB), 7: (BACK, DATA),
-         8: (BACK, BACK), 9: (FILES, FILE)}
+         8: (BACK, BACK), 9: (FILES, FILE), 10: (CLEAR, FILE), 11: (CLEAR, BACK)}
 CONTENTS = {1: (DATA, 0, 64), 2: (FILE, 2, FILE_LIMIT + 65), 3: (OWNER, 32, 32)}  # what seals it, the lengths that its text may have
 NAME_OF_FOLDER, BYTES_OF_FILE, KEY_OF_HOLDER = CONTENTS
 NOTES = range(1, 16)
@@ -18,6 +20,9 @@ NOTES = range(1, 16)
  TAKE, STRICT_ROOT, UPGRADE) = NOTES
 VERSIONS = {ROOT: 1, STRICT_ROOT: 2, UPGRADE: 2}  # that a store has behind these notes
 
+# what a key may read: the folders that are granted to it, those allowed and those named; the files that are granted in folders that aren't
+# allowed, and all that are allowed
+Rights = namedtuple("Rights", "entries allowed named entry_files files")
 # what a note does: the edges removed, the roles gone, wanted and new, the edges added, the content's kind and id
 Change = namedtuple("Change", "removed gone wanted new added content", defaults=((), (), (), (), (), None))
 Head = namedtuple("Head", "kind ids serials nonce")  # of a link, source and target each; of a content, one each
@@ -69,10 +74,21 @@ class State:
             yield folder
 
     def rights(self, holder):
-        """The entry folders of a holder, or for 0 of the owner, and the folders that are allowed and that are named to them."""
+        """What a holder may read, or for 0 the owner."""
         entries = {folder for folder in self.parents if not holder or (holder, folder) in self.grants}
         allowed = {folder for folder in self.parents if folder in entries or not entries.isdisjoint(self.ancestors(folder))}
-        return entries, allowed, allowed.union(*map(self.ancestors, entries))
+        entry_files = {file for file, home in self.homes.items() if (holder, CLEARANCES + file) in self.grants and home not in allowed}
+        homes = {self.homes[file] for file in entry_files}
+        named = allowed.union(homes, *map(self.ancestors, entries | homes))
+        files = entry_files.union(file for file, home in self.homes.items() if home in allowed)
+        return Rights(entries, allowed, named, entry_files, files)
+
+    def granted_files(self):
+        """The files with a grant, ascending."""
+        return sorted({number - CLEARANCES for _, number in self.grants if number >= CLEARANCES})
+
+    def is_granted(self, file):
+        return any(number == CLEARANCES + file for _, number in self.grants)
 
     def depth(self, folder):
         return len(list(self.ancestors(folder)))
@@ -94,7 +110,7 @@ class State:
             return first == len(self.checks) + 1
         if code in (NEW_FOLDER, NEW_FILE):
             made = self.folders_made if code == NEW_FOLDER else self.files_made
-            return first == made + 1 and second in self.parents and self.depth(second) < DEPTH
+            return first == made + 1 < CLEARANCES and second in self.parents and self.depth(second) < DEPTH
         if code in (REWRITE, NAME_FILE, DROP_FILE):
             return first in self.homes
         if code == NAME_FOLDER:
@@ -106,7 +122,8 @@ class State:
         if code == SHIFT_FOLDER:
             return self.fits_under(first, second)
         if code == GIVE:
-            return 1 <= first <= len(self.checks) and second in self.parents and (first, second) not in self.grants
+            may_be_granted = second in self.parents or self.version == 2 and second - CLEARANCES in self.homes
+            return 1 <= first <= len(self.checks) and may_be_granted and (first, second) not in self.grants
         return (first, second) in self.grants
 
     def fits_under(self, folder, into):
@@ -137,17 +154,34 @@ class State:
         if code == NAME_FOLDER:
             return Change(wanted=[(DATA, first)], content=(NAME_OF_FOLDER, first))
         if code == DROP_FILE:
-            return Change(removed=[(9, self.homes[first], first)], gone=[(FILE, first)])
+            gone = [(FILE, first)] + [(CLEAR, CLEARANCES + first)] * self.is_granted(first)
+            return Change(removed=self.edges_at(gone), gone=gone)
         if code == DROP_FOLDER:
-            return Change(removed=[edge for edge in self.edges if source(edge) in five or target(edge) in five], gone=five)
+            return Change(removed=self.edges_at(five), gone=five)
         if code == SHIFT_FILE:
-            return Change(removed=[(9, self.homes[first], first)], wanted=[(FILES, second)], added=[(9, second, first)])
+            home, clear, granted = self.homes[first], CLEARANCES + first, self.is_granted(first)
+            return Change(removed=[(9, home, first)] + [(11, clear, home)] * granted, wanted=[(FILES, second)],
+                          added=[(9, second, first)] + [(11, clear, second)] * granted)
         if code == SHIFT_FOLDER:
             parent = self.parents[first]
             return Change(removed=[(6, parent, first), (8, first, parent)], wanted=[(BACK, first), (SUB, second)], added=around)
+        return self.change_of_grants(code, first, second)
+
+    def change_of_grants(self, code, holder, number):
+        """What a grant or a revocation does: a file's Clear comes with its first grant, and goes with its last."""
+        file, grant = number - CLEARANCES, (2, holder, number)
+        others = any(one != holder and its_number == number for one, its_number in self.grants)
         if code == GIVE:
-            return Change(added=[(2, first, second)])
-        return Change(removed=[(2, first, second)], wanted=[(CLEAR, second)])
+            if number < CLEARANCES or others:
+                return Change(added=[grant])
+            return Change(new=[(CLEAR, number)], added=[(1, 0, number), grant, (10, number, file), (11, number, self.homes[file])])
+        if number < CLEARANCES or others:
+            return Change(removed=[grant], wanted=[(CLEAR, number)])
+        return Change(removed=self.edges_at([(CLEAR, number)]), gone=[(CLEAR, number)])
+
+    def edges_at(self, roles):
+        """The edges with one of these roles at an end."""
+        return [edge for edge in self.edges if source(edge) in roles or target(edge) in roles]
 
     def strict(self, code, change):
         """The roles that get new keys whether or not they are dirty, by the edges from before the command."""
@@ -204,9 +238,10 @@ class State:
             self.homes[fields[0]], self.files_made = fields[1], fields[0]
         elif code == DROP_FILE:
             del self.homes[fields[0]]
+            self.take_grants(CLEARANCES + fields[0])
         elif code == DROP_FOLDER:
             del self.parents[fields[0]]
-            self.grants = {(holder, folder) for holder, folder in self.grants if folder != fields[0]}
+            self.take_grants(fields[0])
         elif code == SHIFT_FILE:
             self.homes[fields[0]] = fields[1]
         elif code == SHIFT_FOLDER:
@@ -215,3 +250,7 @@ class State:
             self.grants.add(tuple(fields))
         elif code == TAKE:
             self.grants.remove(tuple(fields))
+
+    def take_grants(self, number):
+        """All grants on a folder, or on a file by its clearance number, go."""
+        self.grants = {grant for grant in self.grants if grant[1] != number}

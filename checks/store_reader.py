@@ -27,9 +27,9 @@ import re
 import sys
 from collections import defaultdict, namedtuple
 
-from key_step import (BYTES_OF_FILE, CONTENTS, FILE_LIMIT, GIVE, HOLDER, KEY_OF_HOLDER, LINKS, NAME_OF_FOLDER, NEW_FILE, NEW_FOLDER,
-                      NEW_HOLDER, NOTES, OWNER, ROOT, SHIFT_FILE, SHIFT_FOLDER, STRICT_ROOT, TAKE, UPGRADE, Head, State, sealing_role,
-                      source, target)
+from key_step import (BYTES_OF_FILE, CLEARANCES, CONTENTS, FILE_LIMIT, GIVE, HOLDER, KEY_OF_HOLDER, LINKS, NAME_OF_FOLDER, NEW_FILE,
+                      NEW_FOLDER, NEW_HOLDER, NOTES, OWNER, ROOT, SHIFT_FILE, SHIFT_FOLDER, STRICT_ROOT, TAKE, UPGRADE, Head, State,
+                      sealing_role, source, target)
 
 STORE_LIMIT, HEADER, FRAME = 1_073_741_824, 42, 110
 NAME = re.compile(rb"(?!\.\.?\Z)[A-Za-z0-9._-]{1,64}")
@@ -285,24 +285,38 @@ class Reading:
         self.state, self.links, self.contents = state, links, contents
         self.keys, self.names = {(HOLDER, bundle.holder) if bundle.holder else (OWNER, 0): bundle.key}, {}
         self.texts = {}  # what was opened, by its kind and id
-        entries, self.allowed, self.named = state.rights(bundle.holder)
-        self.open_folders(bundle.holder, sorted(entries))
+        self.rights = state.rights(bundle.holder)
+        self.open_folders(bundle.holder)
 
-    def open_folders(self, holder, entries):
-        parents, depth = self.state.parents, self.state.depth
-        for folder in entries:
+    def open_folders(self, holder):
+        parents, depth, rights = self.state.parents, self.state.depth, self.rights
+        for folder in sorted(rights.entries):
             self.follow(2 if holder else 1, holder, folder)
             self.follow(3, folder, folder)
-        for folder in sorted(self.allowed.difference(entries), key=lambda one: (depth(one), one)):
+        for file in sorted(rights.entry_files):
+            self.follow(2, holder, CLEARANCES + file)
+        for folder in sorted(rights.allowed - rights.entries, key=lambda one: (depth(one), one)):
             self.follow(6, parents[folder], folder)
-        for folder in sorted(self.allowed):
+        for folder in sorted(rights.allowed):
             self.follow(4, folder, folder)
             self.follow(5, folder, folder)
-        for folder in sorted(self.named - self.allowed, key=lambda one: (-depth(one), one)):
-            self.follow(8, min(child for child in self.named if parents[child] == folder), folder)
-        for folder in sorted(self.named):
+        for folder in sorted(rights.named - rights.allowed, key=lambda one: (-depth(one), one)):
+            self.follow(*self.up_to(folder))
+        for folder in sorted(rights.named):
             self.follow(7, folder, folder)
             self.names[folder] = self.text(NAME_OF_FOLDER, folder)
+
+    def open_clearances(self):
+        """Opens the key of each file with a grant, as the owner does who writes."""
+        for file in self.state.granted_files():
+            self.follow(1, 0, CLEARANCES + file)
+
+    def up_to(self, folder):
+        """The edge by which a folder is opened that is named and not allowed: from below it, or from a file in it."""
+        below = [child for child in self.rights.named if self.state.parents[child] == folder]
+        if below:
+            return 8, min(below), folder
+        return 11, CLEARANCES + min(file for file in self.rights.entry_files if self.state.homes[file] == folder), folder
 
     def follow(self, *edge):
         """Opens the last link of this edge between present keys."""
@@ -321,21 +335,22 @@ class Reading:
 
     def folders(self):
         """Each named folder, ascending, with its path."""
-        for folder in sorted(self.named):
+        for folder in sorted(self.rights.named):
             names = [self.names[one] for one in (folder, *self.state.ancestors(folder))]
             yield folder, b"/" + b"/".join(names[-2::-1])
 
     def files(self, paths):
-        """Each file in an allowed folder that has one of these paths, or in any for None, with its path and its bytes."""
-        above = {folder: path for folder, path in self.folders() if folder in self.allowed and (paths is None or path in paths)}
-        for number, home in sorted(self.state.homes.items()):
+        """Each allowed file in a folder that has one of these paths, or in any for None, with its path and its bytes."""
+        above = {folder: path for folder, path in self.folders() if paths is None or path in paths}
+        for number in sorted(self.rights.files):
+            home = self.state.homes[number]
             if home in above:
-                self.follow(9, home, number)
+                self.follow(*((9, home) if home in self.rights.allowed else (10, CLEARANCES + number)), number)
                 text = self.text(BYTES_OF_FILE, number)
                 yield above[home].rstrip(b"/") + b"/" + text[1:1 + text[0]], text[1 + text[0]:]
 
     def folder_line(self, folder, path):
-        return (b"folder " if folder in self.allowed else b"ancestor ") + path + b"\n"
+        return (b"folder " if folder in self.rights.allowed else b"ancestor ") + path + b"\n"
 
     def list(self):
         lines = [(path, self.folder_line(folder, path)) for folder, path in self.folders()]
@@ -497,6 +512,7 @@ def opened_to_write(image, owner, wanted=2):
         reading.list()
         for number in range(1, len(state.checks) + 1):
             reading.text(KEY_OF_HOLDER, number)
+        reading.open_clearances()
         if state.version != wanted:
             raise not_wanted(wanted)
     except Fault as fault:

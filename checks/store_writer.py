@@ -4,9 +4,9 @@ key step and the sealing with store_reader.py.
 """
 from collections import namedtuple
 
-from key_step import (BYTES_OF_FILE, DROP_FILE, DROP_FOLDER, GIVE, HOLDER, KEY_OF_HOLDER, NAME_FILE, NAME_FOLDER, NEW_FILE, NEW_FOLDER,
-                      NEW_HOLDER, OWNER, REWRITE, ROOT, SHIFT_FILE, SHIFT_FOLDER, STRICT_ROOT, TAKE, UPGRADE, State, sealing_role, source,
-                      target)
+from key_step import (BYTES_OF_FILE, CLEARANCES, DROP_FILE, DROP_FOLDER, GIVE, HOLDER, KEY_OF_HOLDER, NAME_FILE, NAME_FOLDER, NEW_FILE,
+                      NEW_FOLDER, NEW_HOLDER, OWNER, REWRITE, ROOT, SHIFT_FILE, SHIFT_FOLDER, STRICT_ROOT, TAKE, UPGRADE, State,
+                      sealing_role, source, target)
 from store_reader import Bundle, Reading, be32, followed, log, mac, opened_to_write, owner_tag, xored
 
 COMMAND, EPOCH = 1, 2  # the types of batches
@@ -38,6 +38,7 @@ class Writer:
         reading = Reading(*followed(batches), Bundle(0, owner))
         reading.list()
         holders = {(HOLDER, number): reading.text(KEY_OF_HOLDER, number) for number in range(1, len(reading.state.checks) + 1)}
+        reading.open_clearances()
         files = {Node(False, number): text for (kind, number), text in reading.texts.items() if kind == BYTES_OF_FILE}
         last, _ = batches[-1]
         writer.state, writer.owner, writer.keys = reading.state, owner, reading.keys | holders
@@ -104,10 +105,10 @@ class Writer:
         return self.publish(line, SHIFT_FOLDER if node.is_folder else SHIFT_FILE, [node.number, self.find(into).number])
 
     def grant(self, line, number, path):
-        return self.publish(line, GIVE, [int(number), self.find(path).number])
+        return self.publish(line, GIVE, [int(number), granted_number(self.find(path))])
 
     def revoke(self, line, number, path):
-        return self.publish(line, TAKE, [int(number), self.find(path).number])
+        return self.publish(line, TAKE, [int(number), granted_number(self.find(path))])
 
     def upgrade(self, line):
         """No line of the program's, but a command of its own, in a session of its own."""
@@ -187,6 +188,11 @@ def upgraded(image, owner, random):
     writer = Writer.over(left, owner)
     writer.session(random, ["upgrade"])
     return (0, b"ok\n", b""), writer.image + left[len(writer.image):]
+
+
+def granted_number(node):
+    """How grants and their notes name a folder or a file."""
+    return node.number if node.is_folder else CLEARANCES + node.number
 
 
 def be64(number):

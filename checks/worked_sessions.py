@@ -51,6 +51,9 @@ DEPARTURE = """
 """
 DEPARTURE_VIEWS = "folder / | folder /a | folder /b | file /b/x 00", "ancestor / | folder /a"
 
+SECOND_HOLDER = """
+        holder -> holder 2 fffefdfcfbfaf9f8f7f6f5f4f3f2f1f0efeeedecebeae9e8e7e6e5e4e3e2e1e0"""
+
 ROWS = (
     Row("tree and rename", "fresh", """
         mkdir /a -> ok
@@ -131,6 +134,57 @@ ROWS = (
      """, 352, 6726, {1: "557117292019424fb68d02d3986d392bffa60ddd556d6410759af0875ed129e8"},
      ("folder / | folder /a | folder /b | file /b/x 02", "ancestor / | folder /a"),
      ("folder 2 1  | folder 4 2 a | file 5 1 x 00ff | folder 11 3 b | file 13 1 x 02", "folder 2 1  | folder 4 2 a | file 5 1 x 00ff")),
+    Row("file grant", "grant", SECOND_HOLDER + """
+        grant 2 /a/x -> ok
+     """, 64, 3432, {2: "bbde8751ebfa4d2fb4ff927125fdefe49e16de3cf3ca5ecf408af7fe3ff1e55f"},
+     ("folder / | folder /a | file /a/x 00ff", "ancestor / | folder /a | file /a/x 00ff", "ancestor / | ancestor /a | file /a/x 00ff"),
+     ("folder 2 1  | folder 4 2 a | file 5 1 x 00ff",) * 3),
+    Row("file grant after the upgrade", "upgraded", SECOND_HOLDER + """
+        grant 2 /a/x -> ok
+     """, 64, 5033, {1: None},
+     ("folder / | folder /a | file /a/x 00ff", "ancestor / | folder /a | file /a/x 00ff", "ancestor / | ancestor /a | file /a/x 00ff"),
+     ("folder 2 1  | folder 4 2 a | file 5 1 x 00ff",) * 3),
+    Row("file grant, two on the file", "file grant", """
+        grant 1 /a/x -> ok
+        revoke 2 /a/x -> ok
+     """, 32, 4286, {2: None},
+     ("folder / | folder /a | file /a/x 00ff", "ancestor / | folder /a | file /a/x 00ff", ""),
+     ("folder 2 1  | folder 4 2 a | file 5 1 x 00ff",) * 3),
+    Row("folder revoked, file kept", "file grant", """
+        revoke 1 /a -> ok
+        write /a/x 01 -> ok
+     """, 128, 4637, {2: "cfd8452d31681905fcfce8db9f830bd25bd75a31b7aaafdd6939f4b4ec6c248f"},
+     ("folder / | folder /a | file /a/x 01", "", "ancestor / | ancestor /a | file /a/x 01"),
+     ("folder 2 1  | folder 4 2 a | file 5 1 x 00ff | file 13 1 x 01", "folder 2 1  | folder 4 2 a | file 5 1 x 00ff",
+      "folder 2 1  | folder 4 2 a | file 5 1 x 00ff | file 13 1 x 01")),
+    Row("file revoked", "grant", SECOND_HOLDER + """
+        grant 2 /a/x -> ok
+        revoke 2 /a/x -> ok
+        write /a/x 01 -> ok
+     """, 96, 3841, {2: "dd62e49d4e41643f664ffb00b9d07d11889c295e3f42bbae6a23a9170930b2e2"},
+     ("folder / | folder /a | file /a/x 01", "ancestor / | folder /a | file /a/x 01", ""),
+     ("folder 2 1  | folder 4 2 a | file 5 1 x 00ff | file 12 1 x 01",) * 2 + ("folder 2 1  | folder 4 2 a | file 5 1 x 00ff",)),
+    Row("file moved with its grant", "grant", SECOND_HOLDER + """
+        mkdir /b -> ok
+        grant 2 /a/x -> ok
+        move /a/x /b -> ok
+        write /b/x 03 -> ok
+     """, 448, 6379, {2: None},
+     ("folder / | folder /a | folder /b | file /b/x 03", "ancestor / | folder /a", "ancestor / | ancestor /b | file /b/x 03"),
+     ("folder 2 1  | folder 4 2 a | file 5 1 x 00ff | folder 10 3 b | file 13 1 x 03", "folder 2 1  | folder 4 2 a | file 5 1 x 00ff",
+      "folder 2 1  | folder 4 2 a | file 5 1 x 00ff | folder 10 3 b | file 13 1 x 03")),
+    Row("file moved with its grant, and removed", "grant", SECOND_HOLDER + """
+        mkdir /b -> ok
+        grant 2 /a/x -> ok
+        move /a/x /b -> ok
+        write /b/x 03 -> ok
+        rename /b/x y -> ok
+        rm /b/y -> ok
+     """, 608, 7666, {2: "5945cba0f680811530c625489b70b5b7c9c7c0da495690dec886daed22b3d0e2"},
+     ("folder / | folder /a | folder /b", "ancestor / | folder /a", ""),
+     ("folder 2 1  | folder 4 2 a | file 5 1 x 00ff | folder 10 3 b | file 13 1 x 03 | file 14 1 y 03",
+      "folder 2 1  | folder 4 2 a | file 5 1 x 00ff",
+      "folder 2 1  | folder 4 2 a | file 5 1 x 00ff | folder 10 3 b | file 13 1 x 03 | file 14 1 y 03")),
 )
 
 
