@@ -78,7 +78,7 @@ def renew(words):
         keys = stores.make(half, words.keys)
         with Store.open(half, words.keys, True, True) as new:
             new.run(followed(lines(listing), f"writing {shown(half)}", len(listing)))
-            lost = share(old, new, {line.path for line in listing if line.kind == "folder"})
+            lost = share(old, new, {line.path for line in listing})
             if new.listing(new.owner) != listing or not all(shows_what_is_granted(new, name) for name in new.holders.names):
                 raise Fault(f"{half} doesn't hold what {words.store} does: take it away, and tell its makers; the old store is as it was")
     settle(half, words.new, keys)
@@ -108,15 +108,15 @@ def lines(listing):
             yield f"mkdir {path}" if kind == "folder" else f"write {path} {data.hex()}"
 
 
-def share(old, new, folders):
-    """Makes the same holders with the same grants, and gives those of the grants whose folder the old store doesn't have."""
+def share(old, new, paths):
+    """Makes the same holders with the same grants, and gives those of the grants whose folder or file the old store doesn't have."""
     lost = []
     for name, (_, granted) in sorted(old.holders.names.items(), key=lambda entry: entry[1][0]):
         number = made_now(new, new.keys.file(name + ".key"))
         record = new.holders
         record.add(name, number)
-        new.run(f"grant {number} {path}" for path in sorted(granted & folders))
-        lost += [(name, path) for path in sorted(granted - folders)]
+        new.run(f"grant {number} {path}" for path in sorted(granted & paths))
+        lost += [(name, path) for path in sorted(granted - paths)]
     for name, path in lost:
-        warn(f"the grant of {name} on {real_path(path)} is left out, since that folder isn't there")
+        warn(f"the grant of {name} on {real_path(path)} is left out, since nothing is there")
     return lost

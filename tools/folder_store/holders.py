@@ -4,8 +4,8 @@ The program tells holders' numbers when it makes them, and no grants; so both ar
 
     {"version": 1, "holders": {"ann": {"number": 1, "granted": ["/trip"]}}}
 
-It follows what this front end does: a grant goes with a folder that is moved or renamed, and with one that is removed it's gone. What is
-done with the program itself isn't seen here; `who` asks the program where it has the holder's key.
+It follows what this front end does: a grant goes with a folder or file that is moved or renamed, and with one that is removed it's gone.
+What is done with the program itself isn't seen here; `who` asks the program where it has the holder's key.
 """
 import json
 
@@ -55,7 +55,7 @@ class Holders:
         self.save()
 
     def follow(self, line):
-        """Keeps what an accepted line did to the grants, and gives the names and folders of those that went with a folder."""
+        """Keeps what an accepted line did to the grants, and gives the names and paths of those that went with what was removed."""
         word, *fields = line.split(" ", 2)
         if word not in ("grant", "revoke", "rm", "rename", "move"):
             return []

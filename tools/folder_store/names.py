@@ -69,9 +69,10 @@ def joined(names: list[str]) -> str:
     return "/" + "/".join(names)
 
 
-def core_path(typed: str) -> str:
-    """The path in the store of the folder that somebody typed the real path of."""
-    return joined([piece for name in real_names(typed) for piece in pieces(name)])
+def core_path(typed: str, mark: str = "") -> str:
+    """The path in the store of the folder or file that somebody typed the real path of; with a mark, of what has that at its end."""
+    *above, last = real_names(typed) or [b""]
+    return joined([piece for name in above for piece in pieces(name)] + (pieces(last, mark) if last else []))
 
 
 def real_path(path: str) -> str:

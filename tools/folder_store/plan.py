@@ -6,6 +6,7 @@ first change of a part to the last, so that nobody takes a half one for a whole.
 """
 import collections
 import hashlib
+from collections.abc import Collection
 from itertools import filterfalse
 
 from folder_store.listed import part_name
@@ -55,21 +56,26 @@ def contents(units: dict) -> dict[str, bytes]:
 
 
 class Plan:
-    """`steps` are words, paths and bytes of lines; `renamed` has files' old paths and new ones, `gone_folders` the paths of folders."""
+    """`steps` are words, paths and bytes of lines; `renamed` has old paths and new ones, `gone` the paths of what is removed. `granted` are
+    the paths of what is granted to somebody by itself."""
 
-    def __init__(self, standing: Standing, wanted: Wanted):
+    def __init__(self, standing: Standing, wanted: Wanted, granted: Collection[str] = ()):
         self.units, self.half, self.wanted, self.other = dict(standing.units), set(standing.half), wanted.units, wanted.other
         self.steps: list[tuple] = []
         self.before = dict(standing.units)
         self.renamed: list[tuple[str, str]] = []
-        self.gone_folders = {path for path, unit in self.units.items() if unit is None and self.wanted.get(path, path) is not None}
+        self.gone = {self.stands_at(path) for path, unit in self.units.items()
+                     if path not in self.wanted or (self.wanted[path] is None) != (unit is None)}
         self.clear_the_way()
         self.make_folders()
-        self.rename_files()
+        self.rename_files(granted)
         for path in sorted(self.wanted, key=lambda path: (is_index(path), path)):
             self.write(path, self.wanted[path])
         for path in sorted(set(self.units) - set(self.wanted), reverse=True):
             self.remove(path)
+
+    def stands_at(self, path: str) -> str:
+        return half(path) if path in self.half else path
 
     def step(self, *words) -> None:
         self.steps.append(words)
@@ -159,22 +165,24 @@ class Plan:
         self.renamed.append((source, path))
         for inside in [inside for inside in self.units if inside == source or inside.startswith(source + "/")]:
             self.units[path + inside[len(source):]] = self.units.pop(inside)
-            self.gone_folders.discard(inside)
+            self.gone.discard(inside)
             if inside != source and inside in self.before:
                 self.before[path + inside[len(source):]] = self.before.pop(inside)
 
-    def rename_files(self) -> None:
+    def rename_files(self, granted: Collection[str]) -> None:
         """Renames each file that is new where one with its bytes is gone from the same folder. One that went to another folder is written
-        there anew: moved, it would keep its key, which opens to whoever reads that folder what it once held elsewhere."""
+        there anew: moved, it would keep its key, which opens to whoever reads that folder what it once held elsewhere. So is a granted one:
+        renamed, it would take its grants along, and of two files of one template nobody knows which one this is."""
         gone = collections.defaultdict(list)
         for path in sorted(set(self.units) - set(self.wanted)):
-            if self.units[path] and path not in self.half:
+            if self.units[path] and path not in self.half and path not in granted:
                 gone[parent(path), self.units[path]].append(path)
         for path, unit in sorted(self.wanted.items()):
             if unit and path not in self.units and not is_index(path) and gone[parent(path), unit]:
                 source = gone[parent(path), unit].pop(0)
                 self.step("rename", source, last(path))
                 self.units[path] = self.units.pop(source)
+                self.gone.discard(source)
                 self.renamed.append((source, path))
 
     def counts(self) -> dict[str, int]:

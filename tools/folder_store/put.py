@@ -1,5 +1,6 @@
 """`put FOLDER /path`: brings the store to what a folder holds."""
 import json
+from collections.abc import Collection
 
 from folder_store import room
 from folder_store.entry import opened
@@ -29,7 +30,7 @@ def put(words) -> int:
         read = Reader(words.folder, [words.store, store.keys.above], sum(len(pieces(name)) for name in names), words.with_keys)
         tell_left_out(read, words)
         root = core_tree(store.listing(store.owner))
-        plan = plan_of(root, read, names, words.keep)
+        plan = plan_of(root, read, names, words.keep, room.grants_on(store))
         see_to_room(store, plan, root)
         if words.dry_run:
             tell_lost_grants(store, plan)
@@ -57,14 +58,14 @@ def tell_left_out(read: Reader, words) -> None:
         raise Fault(f"{len(read.left_out)} in {shown(words.folder)} can't be kept, so nothing was done: type --skip to put all else")
 
 
-def plan_of(root: CoreFolder, read: Reader, real: list[bytes], keep: bool) -> Plan:
+def plan_of(root: CoreFolder, read: Reader, real: list[bytes], keep: bool, granted: Collection[str]) -> Plan:
     """The plan to bring the folder of these real names to what was read."""
     see_that_no_file_stands(root, real)
     names = [piece for name in real for piece in pieces(name)]
     around = core_at(root, names)
     if isinstance(around, dict) and (keep or read.left_out):
         overlay(read.tree, real_folder(around), keep, read.left_out)
-    return Plan(Standing(root, names), Wanted(read.tree, names))
+    return Plan(Standing(root, names), Wanted(read.tree, names), granted)
 
 
 def see_that_no_file_stands(root: CoreFolder, real: list[bytes]) -> None:
@@ -105,7 +106,7 @@ def names_in(folder: CoreFolder, path: str = ""):
 
 
 def tell_lost_grants(store, plan: Plan) -> None:
-    """Tells each grant that would go with a folder which is gone; `Store.run` tells it where it goes."""
+    """Tells each grant that would go with a folder or file which is gone; `Store.run` tells it where it goes."""
     for name, (_, granted) in store.holders.names.items():
-        for path in sorted(granted & plan.gone_folders):
-            warn(f"{shown(real_path(path))} is gone, and {name}'s grant on it would go too: if it was only renamed, grant the new one")
+        for path in sorted(granted & plan.gone):
+            warn(f"{shown(real_path(path))} is gone, and {name}'s grant on it would go too: if that was only renamed, grant the new one")

@@ -8,12 +8,12 @@ LIMIT = 1_073_741_824     # bytes of a store
 WARNED_AT = 80          # in 100
 COMMAND = 2048          # bytes, more than a command is likely to take beside a file's bytes and the links of a departure
 OWN_LINKS = 4           # of a folder whose keys are renewed, beside those into what is in it and those from holders
-REVOCATION, LINK = 323, 98      # bytes of one, and for each grant that stays on its folder (docs/FORMAT.md)
+REVOCATION, LINK = 421, 98      # bytes of one, and for each grant that stays on its folder or file (docs/FORMAT.md)
 BESIDE = 1 << 20        # bytes kept back beside revocations, for grants that were made without this front end
 
 
 def grants_on(store):
-    """How many grants stand on each folder, by the record of them."""
+    """How many grants stand on each folder and file, by the record of them."""
     return collections.Counter(path for _, granted in store.holders.names.values() for path in granted)
 
 

@@ -7,9 +7,11 @@ from folder_store import store as stores
 from folder_store.entry import opened
 from folder_store.faults import AlreadyNew, BadWords, Fault, Refused
 from folder_store.keys import checked_name, read_key
-from folder_store.names import core_path
+from folder_store.names import HALF, PARTS, core_path
 from folder_store.private import NewFile
 from folder_store.who import granted_to
+
+NOT_THERE = "refused no-path"
 
 
 def add_commands(add):
@@ -20,7 +22,7 @@ def add_commands(add):
     words.add_argument("what", metavar="add|adopt", choices=["add", "adopt"], help="adopt: the holder whose key is in --key FILE")
     words.add_argument("name", metavar="NAME")
     words.add_argument("--to", metavar="FILE", help="where the key file goes (NAME.key in the key folder)")
-    for name, function, text in (("grant", grant, "lets a holder read a folder and all below it"),
+    for name, function, text in (("grant", grant, "lets a holder read a folder and all below it, or a file alone"),
                                  ("revoke", revoke, "takes such a grant back, and no other")):
         words = add(name, function, text)
         words.add_argument("name", metavar="NAME")
@@ -123,17 +125,31 @@ def change(words, command, settled):
     """A grant or its taking back. Where the store says that it's so already, the record of grants is put right before that is told."""
     with opened(words, writes=True) as store:
         holders = store.holders
-        line = f"{command} {holders.number(words.name)} {core_path(words.path)}"
+        lines = [f"{command} {holders.number(words.name)} {core_path(words.path, mark)}" for mark in ("", PARTS, HALF)]
         if command == "grant":
             room.see_to(store, room.COMMAND)
         try:
-            store.run([line])
+            run_first_found(store, lines)
         except Refused as refused:
             if refused.reply == settled:
-                holders.follow(line)
+                holders.follow(refused.line)
             raise
     done = "may read" if command == "grant" else "no longer has the grant on"
     tell(words, f"{words.name} {done} {words.path}", name=words.name, **{command: words.path})
+
+
+def run_first_found(store, lines):
+    """Has the store do the first of these lines whose path something has: a large file stands at another path than other files, and at a
+    third one where a put of it was stopped."""
+    refusals = []
+    for line in lines:
+        try:
+            return store.run([line])
+        except Refused as refused:
+            refusals.append(refused)
+            if refused.reply != NOT_THERE:
+                raise
+    raise refusals[0]
 
 
 def grant(words):

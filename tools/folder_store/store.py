@@ -161,8 +161,8 @@ class Store:
                 if reply.startswith("refused "):
                     raise Refused(line, reply, len(replies))
                 replies.append(reply)
-                for name, folder in holders.follow(line):
-                    warn(f"the grant of {name} on {real_path(folder)} went with that folder: if it was only renamed, grant the new one")
+                for name, path in holders.follow(line):
+                    warn(f"the grant of {name} on {real_path(path)} went with it: if that was only renamed, grant the new one")
         finally:
             if session:
                 self.ended(session)

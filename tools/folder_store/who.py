@@ -1,4 +1,4 @@
-"""Who reads what: `who` by holders, `grants` by folders. Both are told by the names of what stands now."""
+"""Who reads what: `who` by holders, `grants` by folders and files. Both are told by the names of what stands now."""
 import json
 
 from folder_store.entry import opened
@@ -8,9 +8,9 @@ from folder_store.names import core_path, real_path, shown
 
 def add_commands(add):
     words = add("who", who, "tells the holders: name, number, what is granted to them")
-    words.add_argument("path", metavar="/PATH", nargs="?", help="those alone who read this folder")
-    words = add("grants", grants, "tells the folders that are granted, and to whom")
-    words.add_argument("path", metavar="/PATH", nargs="?", help="those alone that are this folder, below it or above it")
+    words.add_argument("path", metavar="/PATH", nargs="?", help="those alone who read this folder or file")
+    words = add("grants", grants, "tells the folders and files that are granted, and to whom")
+    words.add_argument("path", metavar="/PATH", nargs="?", help="those alone that are this folder or file, below it or above it")
 
 
 def topmost(paths):
@@ -26,10 +26,10 @@ def all_above(path):
 
 def who(words):
     """The record, held against what the program shows with each holder's key, where the key folder has it still."""
-    asked = words.path and core_path(words.path)
+    asked = asked_for(words)
     told, status = told_of_all(words)
     if asked:
-        told = [entry for entry in told if all_above(asked + "/").intersection(entry["paths"])]
+        told = [entry for entry in told if all_above(asked + "/").intersection(map(real_path, entry["paths"]))]
     if words.json:
         print(json.dumps([{"name": entry["name"], "number": entry["number"], "granted": list(map(real_path, entry["paths"])),
                            "from": entry["from"]} for entry in told], ensure_ascii=False))
@@ -39,23 +39,28 @@ def who(words):
 
 
 def grants(words):
-    """The same, by folders."""
-    asked = words.path and core_path(words.path)
+    """The same, by folders and files."""
+    asked = asked_for(words)
     told, status = told_of_all(words)
     readers = {}
     for entry in told:
-        for path in entry["paths"]:
+        for path in map(real_path, entry["paths"]):
             if not asked or asked in (path, "/") or path in all_above(asked + "/") or asked in all_above(path):
                 readers.setdefault(path, []).append(entry)
     if words.json:
-        print(json.dumps([{"path": real_path(path), "names": [entry["name"] for entry in entries],
+        print(json.dumps([{"path": path, "names": [entry["name"] for entry in entries],
                            "recorded": [entry["name"] for entry in entries if entry["from"] == "record"]}
                           for path, entries in sorted(readers.items())], ensure_ascii=False))
     for path, entries in [] if words.json else sorted(readers.items()):
-        print(f"{shown(real_path(path))}  {', '.join(entry['name'] + '*' * (entry['from'] == 'record') for entry in entries)}")
+        print(f"{shown(path)}  {', '.join(entry['name'] + '*' * (entry['from'] == 'record') for entry in entries)}")
     if not words.json and any(entry["from"] == "record" for entries in readers.values() for entry in entries):
         print("*  as recorded: the key isn't here to ask with")
     return status
+
+
+def asked_for(words):
+    """The real path that was typed, where there is one: a large file stands at another path of the store than other files."""
+    return words.path and real_path(core_path(words.path))
 
 
 def note(entry):
@@ -78,7 +83,7 @@ def told_of_all(words):
 
 
 def seen_by(store, name):
-    """The topmost folders that the store shows to a holder, none to one that it doesn't know; None where their key isn't here."""
+    """The topmost that the store shows to a holder, nothing to one that it doesn't know; None where their key isn't here."""
     try:
         return granted_to(store, store.keys.holder(name))
     except NoKey:
@@ -88,5 +93,5 @@ def seen_by(store, name):
 
 
 def granted_to(store, key):
-    """The topmost folders that the store shows to this holder."""
-    return topmost(line.path for line in store.listing(key) if line.kind == "folder")
+    """The topmost folders that the store shows to this holder, and the files that are in none of these."""
+    return topmost(line.path for line in store.listing(key) if line.kind != "ancestor")
