@@ -10,7 +10,8 @@ use Rattle.cry_base.specs.Store.{Store, FolderEntry, root_store, no_store, folde
 use Rattle.cry_base.specs.Store.{has_grant, and_above, way_up, way_to_root, backwards, folder_names, file_names, node_names, path_of}
 use Rattle.cry_base.specs.Store.{depth_of, nodes_of, node_at, is_within}
 use Rattle.cry_base.specs.Refusing.{is_folder, is_file, id_of, granted_id, has_bad_name, has_no_place, finds_no_path, changes_root}
-use Rattle.cry_base.specs.Refusing.{needs_folder, writes_folder, holds_name, parent_of, name_of, finds_name_taken, has_child, removes_children}
+use Rattle.cry_base.specs.Refusing.{needs_folder, writes_folder, holds_name, parent_of, name_of}
+use Rattle.cry_base.specs.Refusing.{finds_name_taken, has_child, removes_children}
 use Rattle.cry_base.specs.Refusing.{moves_into_itself, is_node_within, deepest, height_of, depth_at, goes_too_deep, finds_no_holder}
 use Rattle.cry_base.specs.Refusing.{grants_on_file, grants_again, revokes_nothing, is_too_long, causes, refusal_of, causes_in, refusal_in}
 use Rattle.cry_base.specs.Stepping.{with_new_holder, with_new_folder, with_new_file, with_folder, with_file, without_folder, without_file}

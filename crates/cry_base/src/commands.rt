@@ -45,7 +45,8 @@ pub enum Refusal {
     NoPath,
     /// The root is asked to be made, written, removed, renamed or moved.
     IsRoot,
-    /// A file stands where a folder is due. In a store of version 1 a folder is due in a grant too.
+    /// A file stands where a folder is due. A store of version 1 knows grants on folders alone, so there a file's path in a grant or a
+    /// revocation is refused so too.
     NotFolder,
     /// A folder stands where bytes are to be written.
     IsFolder,

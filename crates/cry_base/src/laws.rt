@@ -33,9 +33,9 @@ pub fn step_refuses_or_acts()
         → step s r key file_bytes ≡ Ok (effect s r key) }
 {}
 
-/// A store of version 2 refuses by the causes of all commands. One of version 1 refuses a grant on a file too, or the taking back of
-/// one, as it refuses a file in the place of a folder, and else what a store of version 2 refuses.
-pub fn versions_refuse_alike()
+/// A store of version 2 refuses what `refusal_of` says. One of version 1 refuses besides, as not-folder, each grant on a file and each
+/// revocation of one; it accepts nothing that a store of version 2 refuses.
+pub fn versions_differ_on_files_alone()
     ensures second { (s : Store) (r : Request) (file_bytes : ℕ) → refusal_in true s r file_bytes ≡ refusal_of s r file_bytes }
     ensures others { (strict : Bool) (s : Store) (r : Request) (file_bytes : ℕ) → grants_on_file s r ≡ false
         → refusal_in strict s r file_bytes ≡ refusal_of s r file_bytes }

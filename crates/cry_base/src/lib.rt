@@ -16,7 +16,7 @@ pub use client::{Bundle, Line, Seen};
 pub use commands::{Command, Refusal, Reply};
 pub use ids::{Epoch, FileId, FolderId, HolderId, ROOT, Serial};
 pub use limits::{
-    DEPTH, FILE_BYTES, FIRST_STORE_BYTES, Limits, NAME_BYTES, STORE_BYTES, limits_of,
+    CLEAR_BASE, DEPTH, FILE_BYTES, FIRST_STORE_BYTES, Limits, NAME_BYTES, STORE_BYTES, limits_of,
 };
 pub use list::{List, Text};
 pub use memory::{Mem, OutOfMemory};

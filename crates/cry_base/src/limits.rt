@@ -2,6 +2,10 @@
 ghost use Rattle.std.specs.Prelude.{◌≡◌};
 ghost use Rattle.cry_base.specs.Limits.{limits_of_version};
 
+/// Numbers from this one on are files' clearance numbers. Folders' and files' own numbers stay below it, since no store has room for so
+/// many.
+pub const CLEAR_BASE: u32 = 2_147_483_648;
+
 /// The most bytes that a store file may have.
 pub const STORE_BYTES: u64 = 1_073_741_824;
 

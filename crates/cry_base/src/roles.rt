@@ -8,7 +8,7 @@ pub enum Role {
     Owner,
     /// A holder's key.
     Holder(HolderId),
-    /// The key that grants hand out: the folder's, or the file's whose clearance number this is, the file's own number and 2^31.
+    /// The key that grants hand out. A number below 2^31 is a folder's; 2^31 + x, x's clearance number, stands for file x.
     Clear(FolderId),
     /// Leads to all below the folder.
     Sub(FolderId),

@@ -14,7 +14,8 @@ pub fn holder_refusals()
         ≡ codes "has-grant" ∷ codes "no-grant" ∷ codes "no-holder" ∷ [] }
 {}
 
-/// A grant on a file lets its holder read that file alone, so it is another one than the grant on its folder; it goes with the file.
+/// A grant on a file lets its holder read that file alone, so it is another one than the grant on its folder; it goes with the file. A store of
+/// version 1 refuses it.
 #[tactic(auto, unfolding(crate::specs::WorkedRows::plain_store))]
 pub fn grants_on_files()
     ensures replies { replies granted (Grant 1 (codes "/a/x") ∷ Grant 1 (codes "/a/x") ∷ Revoke 1 (codes "/a/x")
@@ -22,7 +23,7 @@ pub fn grants_on_files()
         ≡ codes "ok" ∷ codes "has-grant" ∷ codes "ok" ∷ codes "no-grant" ∷ codes "ok" ∷ [] }
     ensures gone { (store_after granted (Grant 1 (codes "/a/x") ∷ Remove (codes "/a/x") ∷ [])).grants
         ≡ record { holder = 1; folder = 2 } ∷ [] }
-    ensures first { refusal_in false granted (Grant 1 (codes "/a/x")) 0 ≡ Some NotFolder }
+    ensures version_one { refusal_in false granted (Grant 1 (codes "/a/x")) 0 ≡ Some NotFolder }
 {}
 
 /// The refusals of a tree's changes, each by the first cause that applies.
