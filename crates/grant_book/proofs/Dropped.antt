@@ -62,7 +62,7 @@ filter_short X p (x ∷ xs) =
       | false ↦ omega (arith, rest)
     ]
 
-filter_shorter : (X : Type 0) (p : X → Bool) (x : X) (xs : List X) → In x xs → p x ≡ false → length (filter p xs) < length xs
+pub filter_shorter : (X : Type 0) (p : X → Bool) (x : X) (xs : List X) → In x xs → p x ≡ false → length (filter p xs) < length xs
 filter_shorter X p x [] i fails = absurd i
 filter_shorter X p x (y ∷ xs) i fails =
     (elim (p y) as (λ b. p y ≡ b → length (cond b (y ∷ filter p xs) (filter p xs)) < suc (length xs)) [

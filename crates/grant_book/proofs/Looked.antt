@@ -24,10 +24,10 @@ All-in X P [] x all i = absurd i
 All-in X P (y ∷ xs) x all i = ⊎_elim (λ (e : x ≡ y). subst P (sym e) (All-head P y xs all)) (λ rest. All-in X P xs x (All-tail P y xs all) rest) i
 
 -- what stands behind the first of rising elements is above it, and rises too
-above_head : (X : Type 0) (rank : X → ℕ) (x : X) (xs : List X) → IsRising rank (x ∷ xs) → (y : X) → In y xs → rank x < rank y
+pub above_head : (X : Type 0) (rank : X → ℕ) (x : X) (xs : List X) → IsRising rank (x ∷ xs) → (y : X) → In y xs → rank x < rank y
 above_head X rank x xs rising y i = All-in X (λ z. rank x < rank z) xs y (λ k d within. rising 0 (suc k) d (omega arith) (omega arith)) i
 
-rest_rises : (X : Type 0) (rank : X → ℕ) (x : X) (xs : List X) → IsRising rank (x ∷ xs) → IsRising rank xs
+pub rest_rises : (X : Type 0) (rank : X → ℕ) (x : X) (xs : List X) → IsRising rank (x ∷ xs) → IsRising rank xs
 rest_rises X rank x xs rising = λ i j d lt within. rising (suc i) (suc j) d (omega arith) (omega arith)
 
 -- rising lists with the same elements are one

@@ -45,11 +45,11 @@ with_pair pairs new = filter (λ e. is_before e new) pairs ++ new ∷ filter (λ
 abbrev pub without_pair : List GrantEntry → ℕ → ℕ → List GrantEntry
 without_pair pairs h f = filter (λ e. not (is_grant h f e)) pairs
 
--- all grants but those on the folder
+-- all grants but those on the folder or file
 abbrev pub without_pairs_on : List GrantEntry → ℕ → List GrantEntry
 without_pairs_on pairs f = filter (λ e. not (e.folder == f)) pairs
 
--- who has a grant on the folder, and on which folders the holder has one
+-- who has a grant on the folder or file, and on which of them the holder has one, by their numbers
 abbrev pub holders_on : List GrantEntry → ℕ → List HolderId
 holders_on pairs f = map (λ e. record { 0 = e.holder }) (filter (λ e. e.folder == f) pairs)
 

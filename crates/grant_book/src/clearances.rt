@@ -3,10 +3,7 @@ ghost use Rattle.std.specs.Prelude.{◌≡◌, ◌<◌, MatchOption, option_map}
 ghost use Rattle.cry_base.specs.Clearances as spec;
 ghost use Rattle.grant_book.specs.Cleared.{as_file};
 
-use cry_base::{FileId, FolderId};
-
-// Numbers from this one on are files'. Fewer folders and fewer files are ever made.
-const CLEAR_BASE: u32 = 2_147_483_648;
+use cry_base::{CLEAR_BASE, FileId, FolderId};
 
 /// The number by which grants name the file.
 pub fn clear_number(x: FileId) -> FolderId

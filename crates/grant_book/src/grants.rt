@@ -2,6 +2,7 @@
 ghost use Rattle.std.specs.Prelude.{◌≡◌, [], ◌∷◌, ◌++◌, ◌+◌, ◌^◌, ◌<◌, ◌≤◌, ◌↔◌, length, IsOk, OnOk, IfOk, IsTrue, AllPairs};
 ghost use Rattle.std.specs.Prelude.{◌==◌, filter, not, MatchOption};
 ghost use Rattle.std.specs.List.{list_any};
+ghost use Rattle.cry_base.specs.Clearances.{is_clear_number};
 ghost use Rattle.cry_base.specs.Sets.{In};
 ghost use Rattle.cry_base.specs.Store.{GrantEntry};
 ghost use Rattle.cry_base.specs.declared.ids.FolderId.{FolderId as FolderNumber};
@@ -11,7 +12,7 @@ ghost use Rattle.grant_book.specs.Granted.{without_pair, without_pairs_on};
 
 use crate::Grant;
 use crate::grant::GrantOn;
-use cry_base::{FolderId, HolderId, List, Mem};
+use cry_base::{CLEAR_BASE, FolderId, HolderId, List, Mem};
 use sorted_table::Table;
 use std::alloc::Global;
 use std::marker::Model;
@@ -222,6 +223,16 @@ impl Grants {
             found.push(pair.folder)?;
         }
         Ok(found)
+    }
+
+    /// How many grants are on files. Takes about log2 of all grants steps.
+    pub fn on_files(&self) -> usize
+        ensures { result ≡ length (filter (λ e. is_clear_number e.folder) self.now.pairs) }
+    {
+        let _pairs = self.pairs.as_slice();
+        let first = GrantOn(Grant::new(HolderId(0), FolderId(CLEAR_BASE)));
+        let last = GrantOn(Grant::new(HolderId(u32::MAX), FolderId(u32::MAX)));
+        self.on_folders.rows_between(&first, &last).len()
     }
 
     /// The holder's grants, by folder.
