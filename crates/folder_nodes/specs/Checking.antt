@@ -1,4 +1,5 @@
--- Which commands a tree refuses, in a store of version 2 where strict is true, and else of version 1. This project's own, docs/FORMAT.md: the causes are tested in their order.
+-- Which commands a tree refuses, in a store of version 2 where strict is true, and else of version 1. This project's own,
+-- docs/FORMAT.md: the causes are tested in their order.
 use Rattle.std.specs.Prelude.{ℕ, Bool, true, false, not, filter, find, Option, Some, None, option_map, Result, Ok, Err, IsSome}
 use Rattle.cry_base.specs.Refusing.{causes_in}
 use Rattle.cry_base.specs.Requests.{Request}

@@ -34,7 +34,8 @@ answer_with None true = Some Full
 answer_with None false = None
 
 unfoldable pub answer : Limits → Journal → Bool → Request → Option Refusal
-answer limits m begun r = answer_with (refusal_in (is_strict (stand_after nothing m).keys) (stand_after nothing m).store r limits.file_bytes)
+answer limits m begun r =
+    answer_with (refusal_in (is_strict (stand_after nothing m).keys) (stand_after nothing m).store r limits.file_bytes)
     (nat_lt limits.store_bytes (due_end m begun r))
 
 -- the reply to a command that is accepted

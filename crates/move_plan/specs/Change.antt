@@ -131,8 +131,8 @@ unfoldable pub is_upgrade : Note → Bool
 is_upgrade Upgrade = true
 is_upgrade note = false
 
--- the strict roles of a note with this row: all that edges lead on from where the store becomes strict, and where it is so those that lead to
--- where a removed edge begins
+-- the strict roles of a note with this row. Where the store becomes strict, all roles that edges lead on from; where it is strict,
+-- those that lead to where a removed edge begins
 unfoldable pub strict_of : Bool → Store → Note → Change → List Role
 strict_of strict s note row =
     cond (is_upgrade note) (inner_roles s) (cond strict (strict_roles (edges s) row.removed row.gone) [])

@@ -261,7 +261,8 @@ pub(crate) fn give_first(
 /// The row of a grant taken back, of a folder or of a file that keeps another.
 #[tactic(auto, unfolding(crate::specs::WorkedChanges::changes))]
 pub(crate) fn take(alloc: Global, holder: HolderId, folder: FolderId) -> Mem<Row>
-    ensures { IfOk result (λ c. plain_row c ≡ record no_change { removed = grant_edge holder.0 folder.0 ∷ []; wanted = clear_of folder.0 ∷ [] }) }
+    ensures { IfOk result (λ c. plain_row c
+        ≡ record no_change { removed = grant_edge holder.0 folder.0 ∷ []; wanted = clear_of folder.0 ∷ [] }) }
 {
     let removed = edges_of(alloc, &[kinds::holder_to_clear(holder, folder)])?;
     let wanted = FewRoles::one(Role::Clear(folder));

@@ -13,7 +13,7 @@ ghost use Rattle.move_plan.specs.Fitting.{row_fits as row_of_note};
 ghost use Rattle.move_plan.specs.Seen.{seen_store};
 ghost use Rattle.record_format.specs.Told.{told_note};
 
-use cry_base::{DEPTH, FileId, FolderId, HolderId, ROOT};
+use cry_base::{CLEAR_BASE, DEPTH, FileId, FolderId, HolderId, ROOT};
 use folder_nodes::Shape;
 use grant_book::{Grants, file_of};
 use record_format::Note;
@@ -87,9 +87,6 @@ fn may_make_file(shape: &Shape, x: FileId, folder: FolderId) -> bool
 {
     is_next_below(x.0, shape.files_made()) && has_depth_left(shape, folder)
 }
-
-// From this number on numbers are clearance numbers. No store has so many folders or files.
-const CLEAR_BASE: u32 = 2_147_483_648;
 
 /// Whether the number is one more than how many were made, and no clearance number.
 #[tactic(auto, unfolding(crate::specs::Fitting::is_next_below))]

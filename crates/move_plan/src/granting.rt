@@ -32,7 +32,7 @@ pub(crate) fn shift_file(
     }
 }
 
-/// The row of a grant of what has the number. The first one of a file makes its clearance.
+/// The row of a grant on the folder or the file with the number. The first one of a file makes its clearance.
 pub(crate) fn give_number(
     alloc: Global,
     shape: &Shape,
@@ -52,7 +52,7 @@ pub(crate) fn give_number(
     give_first(alloc, holder, number, file, folder)
 }
 
-/// The row of that grant taken back. With the last one of a file its clearance goes.
+/// The row of a grant taken back. With the last one of a file its clearance goes.
 pub(crate) fn take_number<R: Adjacent>(
     alloc: Global,
     grants: &Grants,

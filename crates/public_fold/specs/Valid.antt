@@ -7,8 +7,8 @@ use Rattle.public_fold.specs.Journal.Entry.{Session, Made, Did, Upgraded}
 use Rattle.public_fold.specs.KeyStep.{is_strict}
 use Rattle.public_fold.specs.Lengths.{end_of}
 
--- the entry may come next: a command is accepted by a store of the version, a store of version 1 is made one of version 2; either drew a key for each that its step
--- gives
+-- the entry may come next: a command is accepted by a store of the version, a store of version 1 is made one of version 2; either
+-- drew a key for each that its step gives
 abbrev pub IsNext : Stand → Entry → Type 0
 IsNext at Session = Unit {0}
 IsNext at (Made version keys) = ⊥

@@ -118,7 +118,8 @@ unfoldable pub keeping_file : Journal
 keeping_file = granting_file ++ (Session ∷ does 1 (Revoke 1 (codes "/a")) ∷ does 3 (WriteFile (codes "/a/x") (1 ∷ [])) ∷ [])
 
 unfoldable pub moving_file : Journal
-moving_file = granting_file ++ (does 0 (Grant 1 (codes "/a/x")) ∷ does 1 (Revoke 1 (codes "/a/x")) ∷ does 6 (Relocate (codes "/a/x") (codes "/"))
+moving_file =
+    granting_file ++ (does 0 (Grant 1 (codes "/a/x")) ∷ does 1 (Revoke 1 (codes "/a/x")) ∷ does 6 (Relocate (codes "/a/x") (codes "/"))
     ∷ does 3 (Remove (codes "/x")) ∷ [])
 
 -- the step of batch n, from 1

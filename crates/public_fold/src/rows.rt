@@ -189,7 +189,8 @@ pub fn folder_revoked_file_kept()
 /// A file with a grant that leaves a folder takes its clearance along, under a new key. With the file it goes.
 #[tactic(auto, unfolding(crate::specs::WorkedSteps::journals))]
 pub fn file_moved_with_grant()
-    ensures renewed { renewals_at moving_file 13 ≡ (clear_of 1 ∷ clear_of 2 ∷ clear_of 2147483649 ∷ sub_of 1 ∷ sub_of 2 ∷ files_of 2 ∷ []) ∷ [] }
+    ensures renewed { renewals_at moving_file 13
+        ≡ (clear_of 1 ∷ clear_of 2 ∷ clear_of 2147483649 ∷ sub_of 1 ∷ sub_of 2 ∷ files_of 2 ∷ []) ∷ [] }
     ensures links { links_at moving_file 13 ≡ 15 ∷ [] }
     ensures removed { links_at moving_file 14 ≡ 5 ∷ [] }
 {}

@@ -16,7 +16,7 @@ ghost use Rattle.public_fold.specs.Texts.{AreWritten};
 ghost use Rattle.public_fold.specs.Turns.{StandHolds, Turn, turns_fit, turns_links, turns_stand};
 
 /// A note that fits leaves the root, and below it each folder and file in a folder that stands; ids that differ and are not
-/// above the count ever made; and grants of holders that were made, on folders that stand.
+/// above the count ever made; and grants of holders that were made, on folders and files that stand.
 pub fn fitting_notes_leave_the_store_rooted()
     ensures { (at : Stand) (note : Note) → IsTrue (fits (is_strict at.keys) at.store note) → MayStand at.store
         → IsRooted (told_stand at note).store }

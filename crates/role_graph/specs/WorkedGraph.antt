@@ -13,7 +13,8 @@ use Rattle.role_graph.specs.Ascending.{with_role, ascending, without_role}
 
 -- the store of mkdir /a, write /a/x 00ff, holder, grant 1 /a/x
 unfoldable pub file_granted : Store
-file_granted = store_after root_store (MakeFolder (codes "/a") ∷ WriteFile (codes "/a/x") (0 ∷ 255 ∷ []) ∷ AddHolder ∷ Grant 1 (codes "/a/x") ∷ [])
+file_granted =
+    store_after root_store (MakeFolder (codes "/a") ∷ WriteFile (codes "/a/x") (0 ∷ 255 ∷ []) ∷ AddHolder ∷ Grant 1 (codes "/a/x") ∷ [])
 
 -- every word of the graph of roles
 unfoldable pub graph : Unit {0}

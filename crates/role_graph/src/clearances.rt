@@ -10,22 +10,20 @@ ghost use Rattle.role_graph.specs.PublicStore.{public_store};
 ghost use Rattle.role_graph.specs.Roles.{back_of, clear_of};
 
 use crate::{StoreRoles, kinds};
-use cry_base::{Edge, FileId, FolderId, Mem, Role};
+use cry_base::{CLEAR_BASE, Edge, FileId, FolderId, Mem, Role};
 use folder_nodes::FileRow;
 use grant_book::{Grants, clear_number, file_of};
 use sorted_table::Walk;
 use std::alloc::Global;
 
-// From this number on a file would have no clearance number. No store has so many.
-const FILES_END: u32 = 2_147_483_648;
-
 /// The file's clearance number, where somebody has a grant on the file.
 pub fn clearance_of(grants: &Grants, x: FileId) -> Option<FolderId>
-    ensures value { result ≡ cond (list_any (λ g. g.folder == number_of_file x.0) grants.now.pairs) (Some (record { 0 = number_of_file x.0 })) None }
+    ensures value { result ≡ cond (list_any (λ g. g.folder == number_of_file x.0) grants.now.pairs)
+        (Some (record { 0 = number_of_file x.0 })) None }
     ensures below { IsSome result → x.0 < clear_base }
 {
     let _pairs = grants.pairs();
-    if x.0 >= FILES_END {
+    if x.0 >= CLEAR_BASE {
         return None;
     }
     let c = clear_number(x);
@@ -150,7 +148,8 @@ impl<'a> StoreRoles<'a> {
 /// Adds the edge from the owner's key to the clearance key of each file with a grant.
 fn push_owners(found: &mut Vec<Edge>, grants: &Grants, files: Walk<'_, FileRow>) -> Mem<()>
     ensures { OnOk result (found.new.items ≡ found.old.items ++ flat_map (λ r.
-        cond (list_any (λ g. g.folder == number_of_file r.id.0) grants.now.pairs) (edge 1 Owner (clear_of (number_of_file r.id.0)) ∷ []) []) files.entry) }
+        cond (list_any (λ g. g.folder == number_of_file r.id.0) grants.now.pairs)
+        (edge 1 Owner (clear_of (number_of_file r.id.0)) ∷ []) []) files.entry) }
 {
     for file in files {
         push_owner(found, grants, file.id)?;
@@ -172,7 +171,8 @@ fn push_owner(found: &mut Vec<Edge>, grants: &Grants, x: FileId) -> Mem<()>
 /// Adds the edge from the clearance key of each of the files that has a grant to the backlink key of the folder that they are in.
 fn push_backs(found: &mut Vec<Edge>, grants: &Grants, f: FolderId, files: &[FileId]) -> Mem<()>
     ensures { OnOk result (found.new.items ≡ found.old.items ++ flat_map (λ (x : AnyFile).
-        cond (list_any (λ g. g.folder == number_of_file x.0) grants.now.pairs) (edge 11 (clear_of (number_of_file x.0)) (back_of f.0) ∷ []) []) files.now) }
+        cond (list_any (λ g. g.folder == number_of_file x.0) grants.now.pairs)
+        (edge 11 (clear_of (number_of_file x.0)) (back_of f.0) ∷ []) []) files.now) }
 {
     for file in files {
         push_back_of(found, grants, f, *file)?;
@@ -182,7 +182,8 @@ fn push_backs(found: &mut Vec<Edge>, grants: &Grants, f: FolderId, files: &[File
 
 fn push_back_of(found: &mut Vec<Edge>, grants: &Grants, f: FolderId, x: FileId) -> Mem<()>
     ensures { OnOk result (found.new.items ≡ found.old.items
-        ++ cond (list_any (λ g. g.folder == number_of_file x.0) grants.now.pairs) (edge 11 (clear_of (number_of_file x.0)) (back_of f.0) ∷ []) []) }
+        ++ cond (list_any (λ g. g.folder == number_of_file x.0) grants.now.pairs)
+        (edge 11 (clear_of (number_of_file x.0)) (back_of f.0) ∷ []) []) }
 {
     let Some(c) = clearance_of(grants, x) else {
         return Ok(());

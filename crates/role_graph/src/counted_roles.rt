@@ -31,7 +31,7 @@ impl<'a> Model for CountedRoles<'a> {
 }
 
 impl<'a> CountedRoles<'a> {
-    /// The roles of these, counted on from a count. No folder has a clearance number.
+    /// The roles of these, counted on from a count. None of the folders may have a clearance number.
     pub fn new(shape: &'a Shape, grants: &'a Grants, steps: Steps) -> Self
         requires { FoldersBelow shape.now.tree }
         ensures { result ≡ record { store = public_store shape.now.tree grants.now.pairs; steps = steps } }

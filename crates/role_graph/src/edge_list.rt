@@ -113,7 +113,8 @@ fn push_clearances(all: &mut Vec<Edge>, grants: &Grants, files: Walk<'_, FileRow
 /// Adds the edges of the file's clearance key, where it has a grant.
 fn push_clearance(all: &mut Vec<Edge>, grants: &Grants, file: &FileRow) -> Mem<()>
     ensures { OnOk result (all.new.items ≡ all.old.items
-        ++ cond (list_any (λ g. g.folder == number_of_file file.now.id.0) grants.now.pairs) (clearance_edges file.now.folder.0 file.now.id.0) []) }
+        ++ cond (list_any (λ g. g.folder == number_of_file file.now.id.0) grants.now.pairs)
+        (clearance_edges file.now.folder.0 file.now.id.0) []) }
 {
     if clearance_of(grants, file.id).is_some() {
         all.extend_from_slice(&edges_at_clearance(file.folder, file.id))?;

@@ -11,7 +11,8 @@ ghost use Rattle.role_graph.specs.Edges.{Reaches, reach_along, edges, IsEdge};
 ghost use Rattle.role_graph.specs.RightsByReach.{IsClearance, IsRightful, IsSettled, IsStandingRole};
 ghost use Rattle.role_graph.specs.Roles.{clear_of, holder_role, is_root_role, is_sealing_role, is_clear_role, folder_roles, file_role};
 ghost use Rattle.cry_base.specs.declared.roles.Role.TheVariants.{Owner};
-ghost use Rattle.role_graph.specs.Rights.{IsAllowed, IsFileAllowed, IsNamed, IsShown, IsOpen, Who, allowed, file_allowed, named, shown, node_allowed};
+ghost use Rattle.role_graph.specs.Rights.{IsAllowed, IsFileAllowed, IsNamed, IsShown, IsOpen, Who};
+ghost use Rattle.role_graph.specs.Rights.{allowed, file_allowed, named, shown, node_allowed};
 
 /// The roles that are reached from a role are those that a path of edges leads to.
 pub fn reach_is_by_paths()
@@ -37,7 +38,7 @@ pub fn edges_are_typed()
     ensures clear { (s : Store) (e : Edge) → In e (edges s) → IsTrue (is_clear_role e.to) → IsTrue (is_root_role e.from) }
 {}
 
-/// Each role of a folder, of a file in a folder, and the clearance of a file with a grant is reached from the owner's key.
+/// Each role of a folder and of a file in a folder, and the clearance of each file with a grant, is reached from the owner's key.
 pub fn owner_reaches_all()
     ensures folders { (s : Store) (f : FolderEntry) (r : Role) → In f s.folders → In r (folder_roles f.id) → Reaches (edges s) Owner r }
     ensures files { (s : Store) (f : FolderEntry) (x : FileEntry) → In f s.folders → In x s.files → x.folder ≡ f.id

@@ -20,8 +20,8 @@ pub fn allowed(shape: &Shape, grants: &Grants, h: HolderId, f: FolderId) -> bool
     is_allowed_by(grants.pairs(), shape, h, f)
 }
 
-/// Whether the folder's name is shown to the holder: it is allowed, or a grant stands on a folder below it or on a file in
-/// one of these. It looks at all grants, and goes up from the holder's.
+/// Whether the folder's name is shown to the holder: it is allowed, or a grant stands on a folder below it, or on a file in it
+/// or in one of these. It looks at all grants, and goes up from the holder's.
 pub fn named(shape: &Shape, grants: &Grants, h: HolderId, f: FolderId) -> bool
     ensures { let s = public_store shape.now.tree grants.now.pairs in
         GrantsStand s → HasFolder s f.0 → (IsTrue result ↔ IsNamed s h.0 f.0) }

@@ -32,5 +32,6 @@ pub fn edges_of_a_grant_on_a_file()
 pub fn rights_of_a_grant_on_a_file()
     ensures allowed_folders { map (λ f. allowed file_granted 1 f) (1 ∷ 2 ∷ []) ≡ false ∷ false ∷ [] }
     ensures named_folders { map (λ f. named file_granted 1 f) (1 ∷ 2 ∷ 3 ∷ []) ≡ true ∷ true ∷ false ∷ [] }
-    ensures shown_nodes { map (shown file_granted (TheHolder 1)) (folder_node 2 ∷ file_node 1 ∷ file_node 2 ∷ []) ≡ true ∷ true ∷ false ∷ [] }
+    ensures shown_nodes { map (shown file_granted (TheHolder 1)) (folder_node 2 ∷ file_node 1 ∷ file_node 2 ∷ [])
+        ≡ true ∷ true ∷ false ∷ [] }
 {}
