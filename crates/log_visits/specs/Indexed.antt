@@ -1,9 +1,10 @@
 -- Maps from the heads of records to where the last record of each head stands in a log. A link's head is its edge's.
-use Rattle.std.specs.Prelude.{◌≡◌, ◌≤◌, ◌⊎◌, ◌+◌, ◌*◌, ◌++◌, ℕ, Bool, IfSome, IsSome, List, Option, None, Some, Ok, length}
+use Rattle.std.specs.Prelude.{◌≡◌, ◌≤◌, ◌⊎◌, ◌+◌, ◌*◌, ◌++◌, ℕ, Bool, IfSome, IsSome, List, Option, None, Some, Ok, filter, length}
 use Rattle.std.specs.HashMap.{HashMap, get, hash_map_len}
 use Rattle.std.specs.List.{list_any}
 use Rattle.commit_journal.specs.Placed.{PlainPlaced}
 use Rattle.commit_journal.specs.declared.past.Past.{Past}
+use Rattle.cry_base.specs.Clearances.{is_clear_number}
 use Rattle.cry_base.specs.Sets.{In}
 use Rattle.cry_base.specs.Store.{Store}
 use Rattle.cry_base.specs.declared.roles.Edge.{Edge}
@@ -140,7 +141,8 @@ rows_of index = hash_map_len index.links + hash_map_len index.contents
 -- at least as many links as the edges that stand have: of a folder five within it and two with its parent, of a file one, of a grant one,
 -- and three where it is on a file
 abbrev pub most_links : PublicView → ℕ
-most_links v = 7 * length v.tree.folders + length v.tree.files + 4 * length v.pairs
+most_links v = 7 * length v.tree.folders + length v.tree.files + length v.pairs
+    + 3 * length (filter (λ g. is_clear_number g.folder) v.pairs)
 
 -- as many contents as what stands has: the name of a folder, the text of a file, the key of a holder
 abbrev pub most_contents : PublicView → ℕ

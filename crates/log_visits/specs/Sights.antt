@@ -35,7 +35,7 @@ sight_of s who e = record {
 abbrev pub AreSights : Store → Who → List Sight → Type 0
 AreSights s who sights = sights ≡ map (sight_of s who) s.folders
 
--- a holder's grants are on folders that stand
+-- a holder's grants are on folders and files that stand
 abbrev pub MayRead : Store → Who → Type 0
 MayRead s TheOwner = Unit {0}
 MayRead s (TheHolder h) = GrantsStand s

@@ -15,7 +15,8 @@ use Rattle.public_fold.specs.Told.{told_store}
 use Rattle.log_visits.specs.Visiting.{key_of, needed, with_key, visit_edge, visit_text, is_folder_text, is_file_text, with_name_at}
 use Rattle.log_visits.specs.Visiting.{with_parts, with_text_at, with_holder_key, visit, visit_all}
 use Rattle.log_visits.specs.Visits.{folders_that, files_that, is_entry, is_entry_file, entry_edge, entry_folder_visits, entry_file_visits}
-use Rattle.log_visits.specs.Visits.{entry_visits, is_higher, lower_visits, allowed_visits, is_deeper, visit_from, upper_visit, upper_visits, name_visits, into_file, file_visits}
+use Rattle.log_visits.specs.Visits.{entry_visits, is_higher, lower_visits, allowed_visits, is_deeper, visit_from, upper_visit}
+use Rattle.log_visits.specs.Visits.{upper_visits, name_visits, into_file, file_visits}
 use Rattle.log_visits.specs.Visits.{visits_to_names, all_visits, holder_visits, clearance_visits, writing_visits}
 use Rattle.log_visits.specs.WorkedViews.{views}
 
@@ -27,6 +28,7 @@ unfolding journals views and_then folder_lines is_beside lines_beside line_at or
     links_at contents_at body_links body_contents log_links log_contents last_one is_for_edge link_for content_for told_note told_store
     key_of needed with_key visit_edge visit_text is_folder_text is_file_text with_name_at with_parts with_text_at with_holder_key visit
     visit_all folders_that files_that is_entry is_entry_file entry_edge entry_folder_visits entry_file_visits entry_visits is_higher
-    lower_visits allowed_visits is_deeper visit_from upper_visit upper_visits name_visits into_file file_visits visits_to_names all_visits holder_visits clearance_visits
+    lower_visits allowed_visits is_deeper visit_from upper_visit upper_visits name_visits into_file file_visits
+    visits_to_names all_visits holder_visits clearance_visits
     writing_visits
 verdicts = tt

@@ -15,10 +15,12 @@ fn most_links(state: &PublicState) -> usize
     let folders = state.shape().folder_count();
     let files = state.shape().file_count();
     let grants = state.grants().pairs().len();
+    let on_files = state.grants().on_files();
     folders
         .saturating_mul(7)
         .saturating_add(files)
-        .saturating_add(grants.saturating_mul(4))
+        .saturating_add(grants)
+        .saturating_add(on_files.saturating_mul(3))
 }
 
 /// As many contents as what stands has: the name of each folder, the text of each file, the key of each holder.
