@@ -17,7 +17,7 @@ use Rattle.script_text.proofs.BundleLines.{cut_found, value_told}
 use Rattle.script_text.proofs.Fields.{behind_told, is_space, cut_told, cut_at, no_cut, field_told, field_found, no_space_in}
 use Rattle.script_text.proofs.Numbers.{number_told, number_found}
 
-map_some : {A B : Type 0} (f : A → B) (o : Option A) (y : B) → option_map f o ≡ Some y → (x : A) × (o ≡ Some x) × (f x ≡ y)
+pub map_some : {A B : Type 0} (f : A → B) (o : Option A) (y : B) → option_map f o ≡ Some y → (x : A) × (o ≡ Some x) × (f x ≡ y)
 map_some f (Some x) y is = (x, refl, same_Some (f x) y is)
 map_some f None y is = cc
 
@@ -236,7 +236,7 @@ command_found line (Revoke holder path) is = ap request_in is.spelled ∙ revoke
 pub one_command : (line : List ℕ) (one other : Request) → IsCommandLine line one → IsCommandLine line other → one ≡ other
 one_command line one other is_one is_other = same_Some one other (sym (command_found line one is_one) ∙ command_found line other is_other)
 
-asked_for : (asked : Option Request) → IsSome asked → (request : Request) × (asked ≡ Some request)
+pub asked_for : {A : Type 0} (asked : Option A) → IsSome asked → (request : A) × (asked ≡ Some request)
 asked_for (Some request) is = (request, refl)
 asked_for None is = cc
 

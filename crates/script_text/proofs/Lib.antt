@@ -8,3 +8,4 @@ pub mod PrintedLengths
 pub mod Results
 pub mod LineEnds
 pub mod Gauges
+pub mod TaskLines

@@ -4,3 +4,4 @@ pub mod Gauging
 pub mod Printing
 pub mod Reading
 pub mod SeenLines
+pub mod Tasks

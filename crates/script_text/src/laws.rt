@@ -8,6 +8,7 @@ ghost use Rattle.cry_base.specs.Requests.{Request};
 ghost use Rattle.script_text.specs.Commands.{IsCommandLine, request_in};
 ghost use Rattle.script_text.specs.Printing.{owner_line};
 ghost use Rattle.script_text.specs.Reading.{IsBundleLine, bundle_of};
+ghost use Rattle.script_text.specs.Tasks.{IsTaskLine, Task, task_in};
 
 /// Law: the bundle that is read from a line is the one whose line it is.
 pub fn bundles_are_spelled()
@@ -33,4 +34,10 @@ pub fn hex_is_in_lower_case()
 pub fn commands_are_spelled()
     ensures one { (line : List ℕ) (one other : Request) → IsCommandLine line one → IsCommandLine line other → one ≡ other }
     ensures read { (line : List ℕ) (request : Request) → (request_in line ≡ Some request) ↔ IsCommandLine line request }
+{}
+
+/// Law: so it is with a line of `run`.
+pub fn tasks_are_spelled()
+    ensures one { (line : List ℕ) (one other : Task) → IsTaskLine line one → IsTaskLine line other → one ≡ other }
+    ensures read { (line : List ℕ) (task : Task) → (task_in line ≡ Some task) ↔ IsTaskLine line task }
 {}

@@ -12,6 +12,7 @@ pub mod laws;
 mod printing;
 mod reading;
 mod seen_lines;
+mod tasks;
 
 pub use commands::read_line;
 pub use cutter::{Cutter, first_newline};
@@ -20,3 +21,4 @@ pub use head_lines::{print_head, print_node, read_node};
 pub use printing::{OWNER_LINE_LEN, print_line, print_owner, print_reply};
 pub use reading::{key_in, read_bundle};
 pub use seen_lines::print_seen;
+pub use tasks::{LineTask, read_task};
