@@ -16,9 +16,10 @@ use Rattle.record_format.specs.Noted.Note.{Root, NewHolder, NewFolder, NewFile, 
 use Rattle.record_format.specs.Told.{told_note}
 use Rattle.record_format.specs.declared.note.Note.{Note as Declared}
 use Rattle.record_format.specs.declared.note.Note.TheVariants as declared
-use Rattle.public_fold.specs.Journal.{Journal, first_key, store_of}
+use Rattle.public_fold.specs.Journal.{Journal, store_of}
 use Rattle.journal_bytes.specs.Script.{done_reply}
 use Rattle.store_owner.specs.Deeds.{Deed, deed_answer, deed_draws, deed_note, deed_reply}
+use Rattle.store_owner.specs.Acting.{note_reply}
 use Rattle.store_owner.specs.Applying.{Answers, HasOtherRoom, IsCutShort, IsDone}
 use Rattle.store_owner.specs.Deeds.Deed.{Commanded, Upgrading}
 use Rattle.store_owner.specs.Drawing.{DrawsKeys, IsFillFault}
@@ -31,11 +32,7 @@ use Rattle.store_owner.proofs.NotesKeyed.{is_holder, move_no_holder, remove_no_h
 
 -- ---- the reply
 
-abbrev reply_of : Note → List (List ℕ) → Reply
-reply_of (NewHolder h check) drawn = replies.Made (record { 0 = h }) (first_key drawn)
-reply_of note drawn = replies.Done
-
-reply_told : (note : Declared) (drawn : List (List ℕ)) → reply_for note drawn ≡ reply_of (told_note note) drawn
+pub reply_told : (note : Declared) (drawn : List (List ℕ)) → reply_for note drawn ≡ note_reply (told_note note) drawn
 unfolding told_note
 reply_told declared.Root drawn = refl
 reply_told (declared.NewHolder h check) drawn = refl
@@ -53,7 +50,7 @@ reply_told (declared.Take h f) drawn = refl
 reply_told declared.StrictRoot drawn = refl
 reply_told declared.Upgrade drawn = refl
 
-no_reply : (note : Note) (drawn : List (List ℕ)) → is_holder note ≡ false → reply_of note drawn ≡ replies.Done
+no_reply : (note : Note) (drawn : List (List ℕ)) → is_holder note ≡ false → note_reply note drawn ≡ replies.Done
 no_reply Root drawn f = refl
 no_reply (NewHolder h check) drawn f = absurd (false≢true (sym f))
 no_reply (NewFolder e p) drawn f = refl
@@ -70,7 +67,7 @@ no_reply (Take h e) drawn f = refl
 no_reply StrictRoot drawn f = refl
 no_reply Upgrade drawn f = refl
 
-reply_asked : (m : Journal) (r : Request) (check : List ℕ) (drawn : List (List ℕ)) → reply_of (note_of (store_of m) r check) drawn ≡ done_reply m r drawn
+reply_asked : (m : Journal) (r : Request) (check : List ℕ) (drawn : List (List ℕ)) → note_reply (note_of (store_of m) r check) drawn ≡ done_reply m r drawn
 unfolding note_of done_reply store_of
 reply_asked m AddHolder check drawn = refl
 reply_asked m (MakeFolder path) check drawn = refl
@@ -81,12 +78,12 @@ reply_asked m (Relocate path into) check drawn = no_reply _ drawn (move_no_holde
 reply_asked m (Grant h path) check drawn = refl
 reply_asked m (Revoke h path) check drawn = refl
 
-deed_replied : (m : Journal) (d : Deed) (check : List ℕ) (drawn : List (List ℕ)) → reply_of (deed_note (store_of m) d check) drawn ≡ deed_reply m d drawn
+deed_replied : (m : Journal) (d : Deed) (check : List ℕ) (drawn : List (List ℕ)) → note_reply (deed_note (store_of m) d check) drawn ≡ deed_reply m d drawn
 deed_replied m (Commanded r) check drawn = reply_asked m r check drawn
 deed_replied m Upgrading check drawn = refl
 
 pub reply_due : (m : Journal) (d : Deed) (note : Declared) (check : List ℕ) (drawn : List (List ℕ)) → told_note note ≡ deed_note (store_of m) d check → reply_for note drawn ≡ deed_reply m d drawn
-reply_due m d note check drawn told = reply_told note drawn ∙ ap (λ n. reply_of n drawn) told ∙ deed_replied m d check drawn
+reply_due m d note check drawn told = reply_told note drawn ∙ ap (λ n. note_reply n drawn) told ∙ deed_replied m d check drawn
 
 -- ---- the answer
 

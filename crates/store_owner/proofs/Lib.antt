@@ -21,6 +21,7 @@ pub mod OpenedRings
 pub mod OwnerGoesOn
 pub mod OwnerKeeps
 pub mod OtherRoom
+pub mod OwnAnswers
 pub mod Planned
 pub mod PublishedCommands
 pub mod RingRecords

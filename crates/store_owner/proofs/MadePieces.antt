@@ -3,6 +3,7 @@ use Rattle.std.proofs.Common.{◌≡◌, ℕ, ◌+◌, ◌*◌, ◌<◌, List, R
 use Rattle.std.proofs.lemmas.List.Elements.{All-head, All-tail}
 use Rattle.std.proofs.Math.Seq.{take-append_seam, drop-append-add}
 use Rattle.std.specs.Prelude.{IfOk, OnOk}
+use Rattle.commit_journal.specs.Handing.{Hands}
 use Rattle.commit_journal.specs.Image.{Batch, image}
 use Rattle.cry_base.specs.Listed.{Listed}
 use Rattle.cry_base.specs.declared.limits.Limits.{Limits}
@@ -12,6 +13,7 @@ use Rattle.journal_bytes.specs.Bytes.{image_of}
 use Rattle.store_owner.specs.declared.apply_fault.ApplyFault.{ApplyFault}
 use Rattle.store_owner.specs.declared.apply_fault.ApplyFault.TheVariants as answers
 use Rattle.store_owner.specs.Drawing.{AreKeys, DrawsKeys, IsFillFault, joined}
+use Rattle.store_owner.specs.Stopping.{ShowsWritten}
 use Rattle.store_owner.specs.Making.{IsMade, IsMadeJournal, Makes, fresh_writes, made_batches, made_with, made_writes, root_keys, root_payload}
 use Rattle.store_owner.specs.Counted.{root_counted}
 use Rattle.store_owner.specs.Owned.{IsOwnerOf, OwnerView}
@@ -139,10 +141,16 @@ module _ (owner : List ℕ) (rest keys : List (List ℕ)) (six : length keys ≡
       ∙ fresh
 
 -- what a store's making comes to, at its end
-pub makes_all : (result : Result OwnerView ApplyFault) (limits : Limits) (drawn : List ℕ) (before after shown : Option (List ℕ)) → IfOk result (IsMade drawn limits)
-    → OnOk result (WhereTold shown (λ s. s ≡ fresh_image drawn)) → WhereBothTold before after (λ x y. x ≡ drawn ++ y) → IfOk result (Makes limits before after shown)
-makes_all (Ok o) limits drawn before after shown is shows bytes = (drawn, is, bytes, shows)
-makes_all (Err fault) limits drawn before after shown is shows bytes = tt
+pub makes_all : (result : Result OwnerView ApplyFault) (limits : Limits) (drawn : List ℕ) (before after was shows : Option (List ℕ)) (since : List ℕ → List ℕ → Type 0)
+    → IfOk result (IsMade drawn limits) → OnOk result (WhereTold shows (λ s. s ≡ fresh_image drawn)) → OnOk result (ShowsWritten (fresh_writes drawn) was shows)
+    → length drawn ≡ fresh_draw_len → WhereBothTold before after (λ x y. x ≡ drawn ++ y) → Hands (fresh_writes drawn) (Unit {0}) was shows since
+    → IfOk result (Makes limits before after was shows since)
+makes_all (Ok o) limits drawn before after was shows since is fresh all long bytes hands = record {
+  hands = record { drawn = drawn; all_drawn = long; next_bytes = bytes; hands = hands; handed = λ done. all };
+  owner = is;
+  fresh = fresh;
+}
+makes_all (Err fault) limits drawn before after was shows since is fresh all long bytes hands = tt
 
 -- once six keys were drawn their bytes are gone
 pub six_are_gone : (keys : List (List ℕ)) → length keys ≡ 6 → AreKeys keys → (x y : List ℕ) → x ≡ joined keys ++ y → length x ≡ fresh_draw_len + length y

@@ -1,9 +1,10 @@
 -- What opening leaves of a store, whether it is refused or not.
 use Rattle.std.proofs.Common.{◌≡◌, ◌≤◌, ◌⊎◌, ⊎_elim, inl, inr, ℕ, ◌-◌, List, [], ◌∷◌, length, drop, Option, Result, Ok, Err, refl, sym, ap, subst, ◌∙◌}
-use Rattle.std.specs.Prelude.{IfErr, OnOk}
+use Rattle.std.specs.Prelude.{IfErr, IfOk, OnOk}
 use Rattle.cry_base.specs.Limits.{most_store_bytes}
 use Rattle.chacha_seal.specs.Sealing.{veil_of}
 use Rattle.cry_io.specs.Told.{WhereTold, WhereBothTold}
+use Rattle.commit_journal.specs.Journals.{JournalState}
 use Rattle.commit_journal.specs.Opening.{LeavesGated, LeavesSlots, opening_verdict, plain_opened, slots_filled, written_at}
 use Rattle.commit_journal.specs.Placed.{PlainPlaced, plain_log}
 use Rattle.commit_journal.specs.Reading.{IsUntouched}
@@ -16,7 +17,8 @@ use Rattle.public_fold.specs.Journal.{Journal}
 use Rattle.public_fold.specs.Lengths.{end_of}
 use Rattle.journal_bytes.specs.Bytes.{batches_of, bodies_of, image_of}
 use Rattle.journal_bytes.specs.Journals.{StandsForJournal}
-use Rattle.store_owner.specs.Opened.{IsFilled, LeavesRefused}
+use Rattle.store_owner.specs.Opened.{GoesOnBehind, IsFilled, LeavesRefused}
+use Rattle.store_owner.specs.Owned.{OwnerView}
 use Rattle.store_owner.proofs.OpenedBehind.{within}
 
 -- filling all slots leaves what filling them may leave
@@ -46,6 +48,21 @@ module _ (limit : ℕ) (key : List ℕ) (o : OpenedLog) (was shows : Option (Lis
       ap (λ b. drop end b) (filled x y e f ∙ ap (λ log. slots_filled key log x) placed) ∙ filled_behind key bodies x stands.stands
 
 -- ---- by the answer
+
+-- the owner goes on behind the log
+pub goes_on_behind : (limit : ℕ) (key : List ℕ) (o : OpenedLog) (was : Option (List ℕ)) (result : Result OwnerView OpenFault) → WhereTold was (λ s. opening_verdict limit key s ≡ Ok (plain_opened o))
+    → IfOk result (λ r. r.journal ≡ o.journal) → IfOk result (λ r. WhereTold was (GoesOnBehind limit key r))
+goes_on_behind limit key o was (Ok r) verdict same = λ s is. (
+  plain_opened o,
+  verdict s is,
+  record {
+    batches = ap (λ (j : JournalState). j.batches) same;
+    epoch = ap (λ (j : JournalState). j.epoch) same;
+    end = ap (λ (j : JournalState). j.end) same;
+    tag = ap (λ (j : JournalState). j.tag) same;
+  },
+)
+goes_on_behind limit key o was (Err e) verdict same = tt
 
 pub on_each : {X E : Type 0} (P : E → Type 0) (r : Result X E) → ((e : E) → P e) → IfErr r P
 on_each P (Ok x) p = tt

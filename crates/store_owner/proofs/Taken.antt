@@ -96,7 +96,7 @@ pub never_short : {P : Type 0} (result : Result Reply ApplyFault) (left need : �
 never_short (Ok reply) left need disk is = absurd cc
 never_short (Err fault) left need disk is = absurd cc
 
-abbrev failed : ApplyFault → Result Reply ApplyFault
+abbrev pub failed : ApplyFault → Result Reply ApplyFault
 failed fault = Err fault
 
 pub err_is : (fault other : ApplyFault) → failed fault ≡ failed other → fault ≡ other

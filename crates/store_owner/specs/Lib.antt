@@ -1,3 +1,4 @@
+pub mod Acting
 pub mod Applying
 pub mod Counted
 pub mod Deeds

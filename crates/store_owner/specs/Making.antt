@@ -84,8 +84,9 @@ pub record IsMade (drawn : List ℕ) (limits : Limits) (o : OwnerView) : Type 0 
   pub same_file_bytes : o.file_bytes ≡ limits.file_bytes
   pub counted : o.tally ≡ root_counted
 
--- the bytes drawn were the next ones of the source, and the disk shows the fresh store that they make
-abbrev pub Makes : Limits → Option (List ℕ) → Option (List ℕ) → Option (List ℕ) → OwnerView → Type 0
-Makes limits before after shown o =
-    (drawn : List ℕ) × IsMade drawn limits o × WhereBothTold before after (λ x y. x ≡ drawn ++ y)
-    × WhereTold shown (λ s. s ≡ fresh_image drawn)
+-- The bytes drawn make this owner's store: the disk was handed its writes, and nothing else, and shows it.
+pub record Makes (limits : Limits) (before after was shows : Option (List ℕ)) (since : List ℕ → List ℕ → Type 0) (o : OwnerView)
+    : Type 0 where
+  pub hands : HandsFresh (Unit {0}) before after was shows since
+  pub owner : IsMade hands.drawn limits o
+  pub fresh : WhereTold shows (λ s. s ≡ fresh_image hands.drawn)

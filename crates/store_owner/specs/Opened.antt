@@ -5,6 +5,7 @@ use Rattle.cry_base.specs.Sets.{In}
 use Rattle.cry_base.specs.Store.{HolderEntry}
 use Rattle.cry_base.specs.declared.roles.Role.TheVariants.{Owner}
 use Rattle.commit_journal.specs.Answering.{Fault, NotAStore, WrongKey, Damaged, Tampered, and_then}
+use Rattle.commit_journal.specs.Journals.{JournalState}
 use Rattle.commit_journal.specs.Opening.{OwnedLog, opening_verdict, slots_filled}
 use Rattle.commit_journal.specs.Placed.{PlainPlaced}
 use Rattle.commit_journal.specs.Reading.{IsUntouched}
@@ -99,6 +100,17 @@ placed_in log = and_then log (λ (l : OwnedLog). Ok l.placed)
 -- the log of an image passes every test, and each of its slots holds its veil key now; nothing else was written
 abbrev pub IsFilled : ℕ → List ℕ → List ℕ → List ℕ → Type 0
 IsFilled limit key old new = (log : OwnedLog) × (opening_verdict limit key old ≡ Ok log) × (new ≡ slots_filled key log.placed old)
+
+-- a journal goes on behind this log
+pub record IsBehindLog (log : OwnedLog) (j : JournalState) : Type 0 where
+  pub batches : j.batches ≡ log.batches
+  pub epoch : j.epoch ≡ log.epoch
+  pub end : j.end ≡ log.end
+  pub tag : j.tag ≡ log.tag
+
+-- the log of an image passes every test, and the owner goes on behind it
+abbrev pub GoesOnBehind : ℕ → List ℕ → OwnerView → List ℕ → Type 0
+GoesOnBehind limit key o image = (log : OwnedLog) × (opening_verdict limit key image ≡ Ok log) × IsBehindLog log o.journal
 
 -- What a store is left as that isn't opened, but for a fault of the disk: nothing was written; or its slots were filled, since every test
 -- of its log passes and a test of what its payloads make failed, or memory was wanting.

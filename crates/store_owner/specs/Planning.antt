@@ -24,6 +24,7 @@ use Rattle.public_fold.specs.StandFits.{note_fits}
 use Rattle.public_fold.specs.Standing.{IsSeenAs, PublicView}
 use Rattle.journal_bytes.specs.Owning.{IsStoreOf}
 use Rattle.journal_bytes.specs.Sealing.{IsSpaceFor, Space, skeleton_size}
+use Rattle.store_owner.specs.Acting.{HasAnswer}
 use Rattle.store_owner.specs.Deeds.{Deed, deed_answer, deed_draws, deed_key, deed_note, deed_text, IsDeedChange}
 use Rattle.store_owner.specs.Deeds.Deed.{Commanded}
 use Rattle.store_owner.specs.Owned.{IsOwnerOf, OwnerView, limits_in}
@@ -91,12 +92,12 @@ IsUnfit d o = (at : Stand) (s : Store) → IsSeenAs o.state at → IsStoreOf o.s
 abbrev pub IsAnswered : Deed → OwnerView → Option Refusal → Type 0
 IsAnswered d o why = (m : Journal) → IsOwnerOf m o → deed_answer (limits_in o) m o.journal.has_epoch d ≡ why
 
--- A command is planned, and accepted by each owner of a journal, who draws that many keys; or the store is too full for it
+-- A command is planned, and accepted, also by each owner of a journal, who draws that many keys; or the store is too full for it
 abbrev pub AnswersPlan : {E : Type 0} → Result Verdict E → Deed → OwnerView → OwnerView → Type 0
 AnswersPlan (Ok (verdicts.Planned change room)) d old new =
-    IsDrafted d new change × IsFurnished d new change room × IsAnswered d old None
+    IsDrafted d new change × IsFurnished d new change room × IsAnswered d old None × HasAnswer None d old
     × ((m : Journal) → IsOwnerOf m old → (length change.ready.skeleton.keys.items ≡ deed_draws m d) × (32 * deed_draws m d < 2 ^ 32))
-AnswersPlan (Ok verdicts.Full) d old new = (new ≡ old) × IsAnswered d old (Some Full)
+AnswersPlan (Ok verdicts.Full) d old new = (new ≡ old) × IsAnswered d old (Some Full) × HasAnswer (Some Full) d old
 AnswersPlan (Err _) d old new = Unit {0}
 
 -- The session has its epoch, begun now where the journal had none, and the counter of that epoch

@@ -296,7 +296,8 @@ impl Owner {
         requires least { fresh_store_len ≤ limits.store_bytes }
         requires known { limits.store_bytes ≤ most_store_bytes }
         requires files { limits.file_bytes ≤ most_file_bytes }
-        ensures made { IfOk result (Makes limits (R.left random.old) (R.left random.new) (D.shown disk.new)) }
+        ensures made { IfOk result (Makes limits (R.left random.old) (R.left random.new) (D.shown disk.old) (D.shown disk.new)
+            (D.since disk.new (D.moment disk.old))) }
         ensures durable { OnOk result (IsDurable (D.may_leave disk.new) (D.shown disk.new)) }
         ensures size { OnOk result (D.size_of disk.new ≡ fresh_store_len) }
         ensures inside { IfOk result (λ o. o.journal.end ≤ D.size_of disk.new) }
@@ -305,8 +306,6 @@ impl Owner {
             × WhereBothTold (R.left random.old) (R.left random.new) (λ before after. (length before ≡ left) × (after ≡ [])) }
         ensures drew { result ≡ Err ApplyFault.DiskFault
             → WhereBothTold (R.left random.old) (R.left random.new) (λ before after. length before ≡ fresh_draw_len + length after) }
-        ensures hands { OnOk result (HandsFresh (Unit {0}) (R.left random.old) (R.left random.new) (D.shown disk.old) (D.shown disk.new)
-            (D.since disk.new (D.moment disk.old))) }
         ensures cut_short { result ≡ Err ApplyFault.DiskFault → HandsFresh ⊥ (R.left random.old) (R.left random.new)
             (D.shown disk.old) (D.shown disk.new) (D.since disk.new (D.moment disk.old)) }
         ensures not_closed { result ≢ Err ApplyFault.Closed }

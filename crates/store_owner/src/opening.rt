@@ -20,7 +20,7 @@ ghost use Rattle.public_fold.specs.Lengths.{end_of};
 ghost use Rattle.public_fold.specs.Standing.{IsSeenAs};
 ghost use Rattle.journal_bytes.specs.Bytes.{image_of};
 ghost use Rattle.journal_bytes.specs.Journals.{HoldsBetween, IsSettled, Kept, StandsForJournal};
-ghost use Rattle.store_owner.specs.Opened.{AreContents, IsFilled, IsFresh, LeavesRefused, OpensAs, opened_of, placed_in};
+ghost use Rattle.store_owner.specs.Opened.{AreContents, GoesOnBehind, IsFilled, IsFresh, LeavesRefused, OpensAs, opened_of, placed_in};
 ghost use Rattle.store_owner.specs.Owned.{IsOwnerOf};
 ghost use Rattle.store_owner.specs.Published.{PublishesUpTo, StaysPublished};
 
@@ -160,6 +160,7 @@ impl Owner {
         ensures verdict { WhereTold (D.shown disk.old)
             (λ s. OpensAs result (open_with key (placed_in (opening_verdict limits.store_bytes key s)))) }
         ensures largest { limits.store_bytes ≡ most_store_bytes → WhereTold (D.shown disk.old) (λ s. OpensAs result (opened_store key s)) }
+        ensures log { IfOk result (λ o. WhereTold (D.shown disk.old) (GoesOnBehind limits.store_bytes key o)) }
         ensures stands { IfOk result (λ o. (m : AnyJournal) → WhereTold (D.shown disk.old)
             (λ s. StandsForJournal key m s → end_of m ≤ limits.store_bytes → IsOwnerOf m o)) }
         ensures settled { OnOk result ((m : AnyJournal) → WhereTold (D.shown disk.old)

@@ -27,6 +27,7 @@ ghost use Rattle.public_fold.specs.LookUps.{note_look_ups};
 ghost use Rattle.public_fold.specs.Preparing.{HasRoomFor};
 ghost use Rattle.journal_bytes.specs.Owning.{IsStoreOf};
 ghost use Rattle.journal_bytes.specs.Sealing.{IsSpaceFor};
+ghost use Rattle.store_owner.specs.Acting.{Acts};
 ghost use Rattle.store_owner.specs.Applying.{Answers, DiskCounts, HasOtherRoom, IsCarriedOut, IsDoneThen, IsInterrupted, IsKeptBy};
 ghost use Rattle.store_owner.specs.Applying.{UnlessDiskFault};
 ghost use Rattle.store_owner.specs.Counted.{IsWithin, counted_with};
@@ -62,7 +63,8 @@ use command_plan::{change_names, resolve, size_of};
 use commit_journal::{CommitFault, Journal};
 use cry_base::{Command, Limits, Mem, OutOfMemory, Refusal, Reply, Steps};
 use cry_io::{Disk, Source};
-use folder_nodes::{Names, Target};
+use folder_nodes::{Names, Shape, Target};
+use grant_book::Grants;
 use key_links::KeyRing;
 use public_fold::{FoldFault, PublicState};
 use record_format::Payload;
@@ -178,6 +180,37 @@ impl Owner {
         self.state.version()
     }
 
+    /// The folders and the files.
+    pub fn shape(&self) -> &Shape
+        ensures { result.now.tree ≡ self.now.state.tree }
+    {
+        self.state.shape()
+    }
+
+    /// The names of the folders and the files, and the files' bytes.
+    pub fn names(&self) -> &Names
+        ensures { result.now ≡ self.now.names }
+    {
+        &self.names
+    }
+
+    /// The holders, each with the check of its key, and the grants.
+    pub fn grants(&self) -> &Grants
+        ensures checks { result.now.checks ≡ self.now.state.checks }
+        ensures pairs { result.now.pairs ≡ self.now.state.pairs }
+    {
+        self.state.grants()
+    }
+
+    /// Law: an owner who is open has a number left for one holder more.
+    pub fn numbers_are_left(&self)
+        requires open { self.now.journal.is_closed ≡ false }
+        ensures { length self.now.state.checks < 4294967295 }
+    {
+        sound_owners_keep_a_store();
+        self.journal.journal_is_within();
+    }
+
     /// What this owner accepted and published since it made or opened the store, and where the store stands. It takes no memory.
     pub fn tally(&self) -> Tally
         ensures { result ≡ tally_in self.now }
@@ -216,6 +249,8 @@ impl Owner {
         ensures answers { (m : AnyJournal) → IsOwnerOf m self.old → Answers result m (Commanded (request_of command.now)) self.old self.new
             (R.left random.old) (R.left random.new) (D.shown disk.old) (D.shown disk.new)
             (D.may_leave disk.old) (D.may_leave disk.new) (D.since disk.new (D.moment disk.old)) }
+        ensures acts { Acts result (Commanded (request_of command.now)) self.old self.new (R.left random.old) (R.left random.new)
+            (D.shown disk.old) (D.shown disk.new) }
         ensures published { PublishesOn self.old (D.shown disk.old) (D.may_leave disk.old)
             (FromThenOn D.moment D.since disk.old disk.new) }
         ensures later { D.moment disk.old ≤ D.moment disk.new }
@@ -271,6 +306,8 @@ impl Owner {
         ensures answers { (m : AnyJournal) → IsOwnerOf m self.old → Answers result m Upgrading self.old self.new
             (R.left random.old) (R.left random.new) (D.shown disk.old) (D.shown disk.new)
             (D.may_leave disk.old) (D.may_leave disk.new) (D.since disk.new (D.moment disk.old)) }
+        ensures acts { Acts result Upgrading self.old self.new (R.left random.old) (R.left random.new)
+            (D.shown disk.old) (D.shown disk.new) }
         ensures published { PublishesOn self.old (D.shown disk.old) (D.may_leave disk.old)
             (FromThenOn D.moment D.since disk.old disk.new) }
         ensures later { D.moment disk.old ≤ D.moment disk.new }
@@ -322,6 +359,8 @@ impl Owner {
         ensures answers { (m : AnyJournal) → IsOwnerOf m self.old → Answers result m (deed_of asked.now) self.old self.new
             (R.left random.old) (R.left random.new) (D.shown disk.old) (D.shown disk.new)
             (D.may_leave disk.old) (D.may_leave disk.new) (D.since disk.new (D.moment disk.old)) }
+        ensures acts { Acts result (deed_of asked.now) self.old self.new (R.left random.old) (R.left random.new)
+            (D.shown disk.old) (D.shown disk.new) }
         ensures published { PublishesOn self.old (D.shown disk.old) (D.may_leave disk.old)
             (FromThenOn D.moment D.since disk.old disk.new) }
         ensures later { D.moment disk.old ≤ D.moment disk.new }
@@ -449,6 +488,7 @@ impl Owner {
     {
         commands_are_measured();
         owners_keep_the_store();
+        sound_owners_keep_a_store();
         self.journal.journal_is_within();
         let change = match self.draft(alloc, asked, steps) {
             Ok(change) => change,
@@ -495,7 +535,8 @@ impl Owner {
         requires open { self.old.journal.is_closed ≡ false }
         requires inside { self.old.journal.end ≤ D.size_of disk.old }
         requires form { IsWellNamed (deed_of asked.now) }
-        requires accepted { deed_refusal (is_strict self.old.state.keys) (own_store self.old) (deed_of asked.now) self.old.file_bytes ≡ None }
+        requires accepted { deed_refusal (is_strict self.old.state.keys) (own_store self.old) (deed_of asked.now) self.old.file_bytes
+            ≡ None }
         requires suits { Suits self.old.state.keys (deed_of asked.now) }
         requires drafted { IsDrafted (deed_of asked.now) self.old change }
         requires furnished { IsFurnished (deed_of asked.now) self.old change room }

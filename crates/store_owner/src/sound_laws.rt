@@ -42,8 +42,6 @@ pub fn sound_owners_keep_a_store()
     ensures folders { (o : OwnerView) → IsSound o
         → header_len + batch_len * o.journal.batches ≤ most_store_bytes → o.state.tree.folders_made < 4294967295 }
     ensures files { (o : OwnerView) → IsSound o
-        → header_len + batch_len * o.journal.batches ≤ most_store_bytes → o.state.tree.files_made < 4294967295 }
-    ensures below { (o : OwnerView) → IsSound o
         → header_len + batch_len * o.journal.batches ≤ most_store_bytes → o.state.tree.files_made < clear_base }
     ensures holders { (o : OwnerView) → IsSound o
         → header_len + batch_len * o.journal.batches ≤ most_store_bytes → length o.state.checks < 4294967295 }

@@ -1,4 +1,4 @@
-use Rattle.store_owner.proofs.SoundStores.{epoch_few, files_below, files_few, folders_few, holders_few, own_kept}
+use Rattle.store_owner.proofs.SoundStores.{epoch_few, files_below, folders_few, holders_few, own_kept}
 use Rattle.store_owner.proofs.sound_laws.sound_owners_keep_a_store.Goals as goal
 
 pub returns-clause-store : goal.returns-clause-store
@@ -8,10 +8,7 @@ pub returns-clause-folders : goal.returns-clause-folders
 returns-clause-folders c = folders_few
 
 pub returns-clause-files : goal.returns-clause-files
-returns-clause-files c = files_few
-
-pub returns-clause-below : goal.returns-clause-below
-returns-clause-below c = files_below
+returns-clause-files c = files_below
 
 pub returns-clause-holders : goal.returns-clause-holders
 returns-clause-holders c = holders_few

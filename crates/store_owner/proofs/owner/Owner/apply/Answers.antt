@@ -1,9 +1,12 @@
-use Rattle.std.proofs.Common.{◌∙◌, ap, refl, sym}
+use Rattle.std.proofs.Common.{◌∙◌, ap, refl, subst, sym}
 use Rattle.cry_base.specs.Requests.{request_of}
 use Rattle.folder_nodes.specs.Targets.{why_of}
 use Rattle.public_fold.specs.Journal.{store_of}
 use Rattle.store_owner.specs.Owned.{OwnerView}
 use Rattle.store_owner.proofs.Measured.{strict_journal}
+use Rattle.store_owner.specs.Deeds.Deed.{Commanded}
+use Rattle.store_owner.specs.Sound.{IsSound, own_store}
+use Rattle.store_owner.proofs.OwnAnswers.{store_refuses}
 use Rattle.store_owner.proofs.Planned.{is_refused}
 use Rattle.store_owner.proofs.Taken.{takes_none}
 use Rattle.store_owner.proofs.owner.Owner.apply.Goals as goal
@@ -27,3 +30,13 @@ returns-then-is_closed-clause-published g c = λ m is rests. c.disk_stands_still
 
 pub returns-in-Err-clause-published : goal.returns-in-Err-clause-published
 returns-in-Err-clause-published g c = λ m is rests. c.disk_stands_still.ensures.published c.args.self.now.key m rests
+
+pub returns-then-is_closed-clause-acts : goal.returns-then-is_closed-clause-acts
+returns-then-is_closed-clause-acts g c = ap (λ (o : OwnerView). o.journal.is_closed) (sym c.self.view_is) ∙ sym c.is_closed.ensures ∙ c.if-is_closed.true
+
+pub returns-in-Err-clause-acts : goal.returns-in-Err-clause-acts
+returns-in-Err-clause-acts g c =
+    let o : OwnerView = c.args.self.now in
+    let r = request_of c.args.command.now in
+    let sound : IsSound o = subst IsSound c.self.view_is (c.self.invariant (sym c.is_closed.ensures ∙ c.if-is_closed.false)).0 in
+    (store_refuses o (Commanded r) sound c.in-Err.why (sym (c.resolved.ensures.cause (own_store o) (c.sound_owners_keep_a_store.ensures.store o)) ∙ ap why_of c.in-Err.is), refl)

@@ -1,21 +1,25 @@
 use Rattle.std.proofs.Common.{◌≡◌, ℕ, List, Err, ◌++◌, ap, length, refl, subst, sym, ◌∙◌}
-use Rattle.std.proofs.lemmas.Result.{IfErr-at_err, on_ok_weaker}
+use Rattle.std.proofs.lemmas.Result.{IfErr-at_err}
 use Rattle.cry_io.specs.Told.{WhereBothTold}
 use Rattle.commit_journal.proofs.StoppedCommits.{stays}
 use Rattle.cry_base.specs.Listed.{Listed}
 use Rattle.store_owner.specs.declared.apply_fault.ApplyFault.{ApplyFault}
 use Rattle.store_owner.specs.Drawing.{AreKeys, DrawsKeys, IsFillFault, joined}
-use Rattle.store_owner.specs.Making.{HandsFresh, fresh_writes}
-use Rattle.store_owner.specs.Stopping.{ShowsWritten}
 use Rattle.store_owner.proofs.MadePieces.{makes_all, short_of_six, six_are_gone, six_pieces}
 use Rattle.store_owner.proofs.owner.Owner.make.Goals as goal
 
 pub returns-clause-made : goal.returns-clause-made
 returns-clause-made g c =
+    let D = g.D.Disk in
     let left = g.R.Source.left in
+    let a = c.args.disk.now in
+    let b = c.made.new.disk in
     let drawn = c.as_slice.result.now in
-    makes_all c.made.result c.args.limits (joined drawn) (left c.args.random.now) (left c.fill.new.random) (g.D.Disk.shown c.made.new.disk) c.made.ensures.made c.made.ensures.shows
-    (λ x y a b. c.in-Ok-fill.ensures.bytes x y a b ∙ ap (λ (d : List (List ℕ)). joined d ++ y) (sym c.as_slice.ensures))
+    let whole = c.as_slice.ensures in
+    makes_all c.made.result c.args.limits (joined drawn) (left c.args.random.now) (left c.fill.new.random) (D.shown a) (D.shown b) (D.since b (D.moment a))
+    c.made.ensures.made c.made.ensures.shows c.made.ensures.handed
+    (six_pieces drawn (ap length whole ∙ c.in-Ok-fill.ensures.count ∙ c.in-Ok-reserve.ensures) (subst AreKeys (sym whole) c.in-Ok-fill.ensures.sizes)).long
+    (λ x y was now. c.in-Ok-fill.ensures.bytes x y was now ∙ ap (λ (d : List (List ℕ)). joined d ++ y) (sym whole)) c.made.ensures.hands
 
 pub returns-clause-drew : goal.returns-clause-drew
 returns-clause-drew g c = λ failed x y a b.
@@ -51,23 +55,6 @@ returns-in-Err-clause-time g c =
     let a = c.args.disk.now in
     stays (D.moment a) (D.since a) (D.shown a) (D.may_leave a) (λ s left at. g.met.D.Disk.only_now a s left at)
     (λ t s left early is leaves. g.met.D.Disk.counts_now a t s left early is leaves)
-
-pub returns-clause-hands : goal.returns-clause-hands
-returns-clause-hands g c =
-    let D = g.D.Disk in
-    let a = c.args.disk.now in
-    let b = c.made.new.disk in
-    let whole = c.as_slice.ensures in
-    on_ok_weaker c.made.result
-    (λ (all : ShowsWritten (fresh_writes (joined c.as_slice.result.now)) (D.shown a) (D.shown b)).
-    (let is : HandsFresh (Unit {0}) (g.R.Source.left c.args.random.now) (g.R.Source.left c.fill.new.random) (D.shown a) (D.shown b) (D.since b (D.moment a)) = record {
-      drawn = joined c.as_slice.result.now;
-      all_drawn = (six_pieces c.as_slice.result.now (ap length whole ∙ c.in-Ok-fill.ensures.count ∙ c.in-Ok-reserve.ensures) (subst AreKeys (sym whole) c.in-Ok-fill.ensures.sizes)).long;
-      next_bytes = λ x y a b. c.in-Ok-fill.ensures.bytes x y a b ∙ ap (λ (d : List (List ℕ)). joined d ++ y) (sym whole);
-      hands = c.made.ensures.hands;
-      handed = λ done. all;
-    } in is))
-    c.made.ensures.handed
 
 pub returns-clause-cut_short : goal.returns-clause-cut_short
 returns-clause-cut_short g c = λ failed.

@@ -16,7 +16,7 @@ use Rattle.store_owner.proofs.OpenedBehind.{journal_filled, journal_left, journa
 use Rattle.store_owner.proofs.OpenedContents.{log_fails}
 use Rattle.store_owner.proofs.OpenedKept.{journals_kept}
 use Rattle.store_owner.proofs.PublishedCommands.{opening_published}
-use Rattle.store_owner.proofs.RefusedStores.{behind_kept, is_filled, is_gated, ok_is_no_fault, on_each, on_ok, same_fault, untouched_refused}
+use Rattle.store_owner.proofs.RefusedStores.{behind_kept, goes_on_behind, is_filled, is_gated, ok_is_no_fault, on_each, on_ok, same_fault, untouched_refused}
 use Rattle.store_owner.proofs.owner.Owner.open_store.Goals as goal
 
 pub returns-in_err-opened-clause-verdict : goal.returns-in_err-opened-clause-verdict
@@ -61,6 +61,15 @@ returns-clause-stands g c =
     (subst (λ b. IsOpened b limit o.journal) bytes c.in_ok-opened.ensures.opened)
     (subst (λ b. WhereTold (g.D.Disk.shown c.args.disk.now) (λ s. opening_verdict limit b s ≡ Ok (plain_opened o))) bytes c.in_ok-opened.ensures.verdict)
     c.owner_behind.ensures.answer c.owner_behind.ensures.journal c.owner_behind.ensures.fresh
+
+pub returns-clause-log : goal.returns-clause-log
+returns-clause-log g c =
+    let limit = c.args.limits.store_bytes in
+    let o = c.in_ok-opened.opened in
+    let bytes = ap (λ (k : KeyParts). k.bytes) c.owner-owner.ensures in
+    goes_on_behind limit c.args.key o (g.D.Disk.shown c.args.disk.now) c.owner_behind.result
+    (subst (λ b. WhereTold (g.D.Disk.shown c.args.disk.now) (λ s. opening_verdict limit b s ≡ Ok (plain_opened o))) bytes c.in_ok-opened.ensures.verdict)
+    c.owner_behind.ensures.journal
 
 pub returns-clause-settled : goal.returns-clause-settled
 returns-clause-settled g c =

@@ -20,11 +20,12 @@ use Rattle.store_owner.specs.declared.owner.Verdict.{Verdict}
 use Rattle.store_owner.specs.declared.owner.Verdict.TheVariants as verdicts
 use Rattle.store_owner.proofs.Applied.{all_ok, carried_answer, reply_due, undrawn_answer}
 use Rattle.store_owner.proofs.Measured.{accepted_journal}
+use Rattle.store_owner.proofs.OwnAnswers.{carried_acts, undrawn_acts}
 use Rattle.store_owner.proofs.OtherRoom.{accepted_still, carried_from, handed_from, limit_still, published_from, sound_still, stops_from, store_still, suits_still, interrupted_from}
 use Rattle.std.proofs.lemmas.Result.{on_err_weaker}
 use Rattle.store_owner.proofs.Tallies.{carried_counts}
 use Rattle.store_owner.proofs.StoppedCommands.{rests_then}
-use Rattle.store_owner.proofs.Taken.{are_planned, err_is, falls_short, never_short, takes_filled, takes_none}
+use Rattle.store_owner.proofs.Taken.{are_planned, err_is, failed, falls_short, never_short, takes_filled, takes_none}
 use Rattle.store_owner.proofs.owner.Owner.perform.Goals as goal
 
 pub returns-in-Err-fill-clause-answers : goal.returns-in-Err-fill-clause-answers
@@ -33,7 +34,7 @@ returns-in-Err-fill-clause-answers g c = λ m is.
     let r = deed_of c.args.asked.now in
     let planned : AnswersPlan {E = OutOfMemory} (Ok (verdicts.Planned c.in-Ok-Planned.change c.in-Ok-Planned.room)) r o c.plan.new.self =
     subst (λ (v : Verdict). AnswersPlan {E = OutOfMemory} (Ok v) r o c.plan.new.self) c.in-Ok-Planned.field-0-is c.in-Ok-Planned.ensures.answers in
-    let draws = planned.3 m is in
+    let draws = planned.4 m is in
     undrawn_answer c.in-Err-fill.fault c.in-Ok.keys m r o c.plan.new.self (g.R.Source.left c.args.random.now) (g.R.Source.left c.fill.new.random) (g.D.Disk.shown c.args.disk.now) (g.D.Disk.shown c.args.disk.now)
     (g.D.Disk.may_leave c.args.disk.now) (g.D.Disk.may_leave c.args.disk.now) (g.D.Disk.since c.args.disk.now (g.D.Disk.moment c.args.disk.now))
     (planned.2 m is) c.plan.ensures.room (c.in-Ok.ensures ∙ ap length c.as_slice-count.ensures ∙ ap (λ (s : Skeleton). length s.keys.items) c.skeleton.ensures ∙ draws.0) draws.1
@@ -111,7 +112,7 @@ returns-clause-answers g c = λ m is.
     let left : IsInterrupted r drawn mid was shows → IsCutShort m r o before after was shows might may since = λ h. record {
       drawn = drawn;
       drawn_count = ap length c.as_slice.ensures ∙ c.in-Ok-fill.ensures.count ∙ c.in-Ok.ensures ∙ ap length c.as_slice-count.ensures
-          ∙ ap (λ (s : Skeleton). length s.keys.items) c.skeleton.ensures ∙ (planned.3 m is).0;
+          ∙ ap (λ (s : Skeleton). length s.keys.items) c.skeleton.ensures ∙ (planned.4 m is).0;
       drawn_sizes = subst AreKeys (sym c.as_slice.ensures) c.in-Ok-fill.ensures.sizes;
       next_bytes = λ x y a b. c.in-Ok-fill.ensures.bytes x y a b ∙ ap (λ (d : List (List ℕ)). joined d ++ y) (sym c.as_slice.ensures);
       disk_stands = c.interrupted_commands_leave_a_journal.ensures m r drawn o was shows is limit bounded (planned.2 m is) c.requires.suits (interrupted_from r drawn o mid was shows c.plan.ensures.room h);
@@ -190,3 +191,40 @@ returns-clause-published g c = λ m is rests.
     let D = g.D.Disk in
     published_from r o c.plan.new.self (D.shown c.args.disk.now) (D.may_leave c.args.disk.now) (FromThenOn D.moment D.since c.args.disk.now c.carry_out.new.disk)
     c.plan.ensures.room c.carry_out.ensures.published m is limit bounded (planned.2 m is) rests
+
+-- ---- what is done, whatever the owner stands for
+
+pub returns-in-Ok-Full-clause-acts : goal.returns-in-Ok-Full-clause-acts
+returns-in-Ok-Full-clause-acts g c =
+    let o : OwnerView = c.args.self.now in
+    let full : AnswersPlan {E = OutOfMemory} (Ok verdicts.Full) (deed_of c.args.asked.now) o c.plan.new.self =
+    subst (λ (v : Verdict). AnswersPlan {E = OutOfMemory} (Ok v) (deed_of c.args.asked.now) o c.plan.new.self) c.in-Ok-Full.field-0-is c.in-Ok-Full.ensures.answers in
+    (full.2, full.0)
+
+pub returns-in-Err-fill-clause-acts : goal.returns-in-Err-fill-clause-acts
+returns-in-Err-fill-clause-acts g c =
+    let o : OwnerView = c.args.self.now in
+    let r = deed_of c.args.asked.now in
+    let planned : AnswersPlan {E = OutOfMemory} (Ok (verdicts.Planned c.in-Ok-Planned.change c.in-Ok-Planned.room)) r o c.plan.new.self =
+    subst (λ (v : Verdict). AnswersPlan {E = OutOfMemory} (Ok v) r o c.plan.new.self) c.in-Ok-Planned.field-0-is c.in-Ok-Planned.ensures.answers in
+    undrawn_acts r o c.plan.new.self (g.R.Source.left c.args.random.now) (g.R.Source.left c.fill.new.random) (g.D.Disk.shown c.args.disk.now) (g.D.Disk.shown c.args.disk.now)
+    c.in-Err-fill.fault c.in-Ok.keys planned.3 c.in-Err-fill.ensures.faults (λ left need is. returns-in-Err-fill-clause-short g c left need (ap failed is))
+
+pub returns-clause-acts : goal.returns-clause-acts
+returns-clause-acts g c =
+    let o : OwnerView = c.args.self.now in
+    let r = deed_of c.args.asked.now in
+    let mid = c.plan.new.self in
+    let new = c.carry_out.new.self in
+    let p = c.in-Ok-Planned.change in
+    let planned : AnswersPlan {E = OutOfMemory} (Ok (verdicts.Planned p c.in-Ok-Planned.room)) r o mid =
+    subst (λ (v : Verdict). AnswersPlan {E = OutOfMemory} (Ok v) r o mid) c.in-Ok-Planned.field-0-is c.in-Ok-Planned.ensures.answers in
+    let drawn = c.as_slice.result.now in
+    let was = g.D.Disk.shown c.args.disk.now in
+    let shows = g.D.Disk.shown c.carry_out.new.disk in
+    let store = c.sound_owners_keep_a_store.ensures.store o in
+    carried_acts r o new (g.R.Source.left c.args.random.now) (g.R.Source.left c.fill.new.random) was shows c.carry_out.result p.note drawn (IsCarriedOut r drawn mid new was shows)
+    planned.3 (planned.0.told (own_store o) (store_still (own_store o) o mid c.plan.ensures.room store)) (subst AreKeys (sym c.as_slice.ensures) c.in-Ok-fill.ensures.sizes)
+    (λ x y a b. c.in-Ok-fill.ensures.bytes x y a b ∙ ap (λ (d : List (List ℕ)). joined d ++ y) (sym c.as_slice.ensures)) c.carry_out.ensures.fault
+    (on_err_weaker c.carry_out.result (λ h. interrupted_from r drawn o mid was shows c.plan.ensures.room h) c.carry_out.ensures.interrupted) c.carry_out.ensures.reply
+    c.carry_out.ensures.done (λ h. carried_from r drawn o mid new was shows c.plan.ensures.room h)
