@@ -1,5 +1,5 @@
 -- How `gen` ends, where its script does or the making of its store.
-use Rattle.std.proofs.Common.{◌≡◌, ◌≢◌, ◌<◌, ◌≤◌, ◌+◌, ◌⊎◌, ℕ, List, [], ◌++◌, length, Option, Some, None, Result, Ok, Err, inl, inr, refl, sym, ap, subst, ◌∙◌}
+use Rattle.std.proofs.Common.{true, ◌≡◌, ◌≢◌, ◌<◌, ◌≤◌, ◌+◌, ◌⊎◌, ℕ, List, [], ◌++◌, length, Option, Some, None, Result, Ok, Err, inl, inr, refl, sym, ap, subst, ◌∙◌}
 use Rattle.std.specs.Prelude.{is_some, IsTrue}
 use Rattle.std.proofs.lemmas.Bool.{false≢true}
 use Rattle.batch_log.specs.Moments.{FromThenOn}
@@ -33,7 +33,7 @@ use Rattle.cli_sessions.specs.Stopping.{LinesKeepUpTo}
 use Rattle.cli_base.specs.Outside.{PrintsAll, PrintsFront}
 use Rattle.cli_base.specs.declared.status.Status.{Status}
 use Rattle.cli_base.specs.declared.status.Status.TheVariants.{Done, WriteFault, DiskFault, RandomFault, RandomShort, OutOfMemory}
-use Rattle.cli_making.proofs.GeneratedLines.{asks_script}
+use Rattle.cli_making.proofs.GeneratedLines.{asks_script, script_stood}
 use Rattle.cli_making.proofs.MakeLemmas.{fresh_stands, is_short}
 
 -- ---- a script that was applied to its end
@@ -91,6 +91,7 @@ module _ (seed count : ℕ) (key : List ℕ) (m : Journal) (o : OwnerView) (left
     rest = [];
     asks = asks_script seed count;
     session = is.session;
+    stood = script_stood true version_limits m is.session.drawn seed count;
     draws = is.draws;
     leaves = is.leaves;
     kept = is.kept;
@@ -174,9 +175,8 @@ begins_there root drawn o shown s made shows told =
 -- `start` is the disk as the making left it
 pub generated : {D : Type 0} (disks : disk.Ghosts D) → RootCounted → (status : Status) (seed count : ℕ) (o : OwnerView) (left_before left_between left_after : Option (List ℕ))
     (disk_old start disk_new : D) (before after : Option (List ℕ)) → is_some left_between ≡ is_some left_before → is_some (disks.shown disk_new) ≡ is_some (disks.shown start)
-    → (store : making.Makes version_limits left_before left_between (disks.shown start) o)
-    → StandsMade disks store.0 disk_old start
-    → making.HandsFresh (Unit {0}) left_before left_between (disks.shown disk_old) (disks.shown start) (disks.since start (disks.moment disk_old))
+    → (store : making.Makes version_limits left_before left_between (disks.shown disk_old) (disks.shown start) (disks.since start (disks.moment disk_old)) o)
+    → StandsMade disks store.hands.drawn disk_old start
     → disks.moment start ≤ disks.moment disk_new → GoesOn (disks.moment start) (disks.since start) (disks.since disk_new)
     → ((key : List ℕ) (m : Journal) → Begins key m o (disks.shown start)
     → Fills status seed count key m (unheard left_between left_after (disks.shown disk_new)) (disks.may_leave disk_new) (LinesKeepUpTo key m (disks.shown start) (disks.shown disk_new) (disks.since disk_new (disks.moment start))) before after)
@@ -184,34 +184,32 @@ pub generated : {D : Type 0} (disks : disk.Ghosts D) → RootCounted → (status
     → LinesPublish key m (disks.since disk_new (disks.moment start)) (FromThenOn disks.moment disks.since start disk_new))
     → Announces status o.key before after
     → Generates disks status seed count left_before left_after disk_old disk_new before after
-generated disks root status seed count o left_before left_between left_after disk_old start disk_new before after left_told shown_told store stands hands later time fills publish announced =
-    let drawn : List ℕ = store.0 in
+generated disks root status seed count o left_before left_between left_after disk_old start disk_new before after left_told shown_told store stands later time fills publish announced =
+    let drawn : List ℕ = store.hands.drawn in
     record {
-      drawn = drawn;
-      drawn_length = store.1.all_drawn;
       behind = left_between;
-      next = store.2;
       behind_told = left_told;
       start = start;
+      hands = store.hands;
       stands = stands;
-      hands = hands;
       later = later;
       time = time;
       fills = λ x now.
           let s = told_again (disks.shown disk_new) (disks.shown start) x (sym shown_told) now in
-          fills (piece drawn 0) (making.made_with (making.root_keys drawn)) (begins_there root drawn o (disks.shown start) s.0 store.1 store.3 s.1);
+          fills (piece drawn 0) (making.made_with (making.root_keys drawn)) (begins_there root drawn o (disks.shown start) s.0 store.owner store.fresh s.1);
       published = λ x now.
           let s = told_again (disks.shown disk_new) (disks.shown start) x (sym shown_told) now in
-          let begun = begins_there root drawn o (disks.shown start) s.0 store.1 store.3 s.1 in
+          let begun = begins_there root drawn o (disks.shown start) s.0 store.owner store.fresh s.1 in
           publish (piece drawn 0) (making.made_with (making.root_keys drawn)) begun.stands;
-      announced = subst (λ (key : List ℕ). Announces status key before after) store.1.same_key announced;
+      announced = subst (λ (key : List ℕ). Announces status key before after) store.owner.same_key announced;
     }
 
 -- behind the making the random source ended in a command's draw
-pub dry_behind : (limits : Limits) (o : OwnerView) (left need : ℕ) (before between after shown : Option (List ℕ)) → making.Makes limits before between shown o
-    → RanDry left need between after → EndsDry left need before after
-dry_behind limits o left need before between after shown store dry =
-    inr (between, λ x y was now. (store.0, store.1.all_drawn, store.2 x y was now), dry)
+pub dry_behind : (limits : Limits) (o : OwnerView) (left need : ℕ) (before between after was shown : Option (List ℕ)) (since : List ℕ → List ℕ → Type 0)
+    → making.Makes limits before between was shown since o → RanDry left need between after → EndsDry left need before after
+dry_behind limits o left need before between after was shown since store dry =
+    let hands = store.hands in
+    inr (between, λ x y had now. (hands.drawn, hands.all_drawn, hands.next_bytes x y had now), dry)
 
 -- ---- and one that wasn't
 

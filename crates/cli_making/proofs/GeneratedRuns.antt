@@ -13,7 +13,7 @@ use Rattle.cli_sessions.specs.declared.script.ScriptFault.TheVariants.{BadLine, 
 use Rattle.cli_base.specs.declared.status.Status.{Status}
 use Rattle.cli_making.proofs.GeneratedLines.{asked_script, script_ahead, script_never_bad}
 use Rattle.cli_sessions.proofs.RunEnds.{IsCalm, TallyTold, applies_all, stops_as}
-use Rattle.cli_sessions.proofs.RunLemmas.{Fails, IsPresent, Step, leaves, moments, rests_there, scene}
+use Rattle.cli_sessions.proofs.RunLemmas.{Fails, IsPresent, Stand, Step, leaves, moments, rests_there, scene}
 use Rattle.cli_base.proofs.InputLemmas.{fresh_reader}
 use Rattle.public_fold.specs.Journal.{Journal}
 use Rattle.store_gen.specs.Rule.{script_of}
@@ -31,19 +31,19 @@ module _ (R D : Type 0) (left : R → Option (List ℕ)) (random_faults : R → 
     (start end : OwnerView × R × D) (old new : LineState) (script rest : List ℕ) (fresh : old ≡ fresh_reader) where
   abbrev HasRan : Result (Unit {0}) ScriptFault → Type 0
   HasRan result = Ran (Step R D left random_faults shown disk_faults may_leave moment since) (Fails R D left random_faults shown disk_faults may_leave moment since)
-      result start end old new (Some script) (Some rest) None None
+      (Stand R D left random_faults shown disk_faults may_leave moment since) result start end old new (Some script) (Some rest) None None
 
   never_bad : (line : ℕ) → IsScript script → HasRan (Err (BadLine line)) → ⊥
   never_bad line is ran =
       let seed : ℕ = is.0 in
       let count : ℕ = is.1 in
       let taken = ran.lines script rest refl refl in
-      let asks : Asks ran.asked (script_lines seed count) taken.0 =
-      subst (λ ls. Asks ran.asked ls taken.0) (script_is_ahead old script seed count fresh is.2 is.3) taken.1 in
-      script_never_bad seed count ran.asked taken.0 asks taken.2
+      let asks : Asks ran.went.asked (script_lines seed count) taken.0 =
+      subst (λ ls. Asks ran.went.asked ls taken.0) (script_is_ahead old script seed count fresh is.2 is.3) taken.1.0 in
+      script_never_bad seed count ran.went.asked taken.0 asks taken.2
 
   -- they stop only where a command met a fault, or memory was wanting
-  pub stops : (fault : ScriptFault) → IsScript script → HasRan (Err fault) → ReadsByCount {U = Unit {0}} (Err fault) 0 0 → WritesByCount (Err fault) 0 0
+  pub stops : (fault : ScriptFault) → IsScript script → HasRan (Err fault) → ReadsByCount {U = Unit {0}} (Err fault) 0 0 → WritesByCount {U = Unit {0}} (Err fault) 0 0
       → IsStop (script_status fault)
   stops (BadLine line) is ran reads writes = absurd (never_bad line is ran)
   stops ReadFault is ran reads writes = absurd (let no : 0 < 0 = reads in omega (arith, no))
@@ -71,6 +71,7 @@ module _ (R D : Type 0) (left : R → Option (List ℕ)) (random_faults : R → 
         let all = applies_all (OwnerView × R × D) (scene R D left random_faults shown disk_faults may_leave moment since)
         (leaves R D left random_faults shown disk_faults may_leave moment since) (moments R D left random_faults shown disk_faults may_leave moment since)
         (Step R D left random_faults shown disk_faults may_leave moment since) (Fails R D left random_faults shown disk_faults may_leave moment since)
+        (Stand R D left random_faults shown disk_faults may_leave moment since) (λ x n commands so. so)
         (λ x r reply y step. step.0) (λ x r fault y failed. failed.0) version_limits key m start end begins.stands (present start.2)
         (rests_there version_limits key m start.0 (shown start.2) (may_leave start.2) begins.stands durable) None none_kept
         old new (Some script) (Some rest) None None script rest refl refl told ran calm begins.counted in
@@ -84,6 +85,7 @@ module _ (R D : Type 0) (left : R → Option (List ℕ)) (random_faults : R → 
         let stopped = stops_as (OwnerView × R × D) (scene R D left random_faults shown disk_faults may_leave moment since)
         (leaves R D left random_faults shown disk_faults may_leave moment since) (moments R D left random_faults shown disk_faults may_leave moment since)
         (Step R D left random_faults shown disk_faults may_leave moment since) (Fails R D left random_faults shown disk_faults may_leave moment since)
+        (Stand R D left random_faults shown disk_faults may_leave moment since) (λ x n commands so. so)
         (λ x r reply y step. step.0) (λ x r fault y failed. failed.0) version_limits key m start end begins.stands (present start.2)
         (rests_there version_limits key m start.0 (shown start.2) (may_leave start.2) begins.stands durable) None none_kept
         old new (Some script) (Some rest) None None script rest refl refl fault stop ran calm in

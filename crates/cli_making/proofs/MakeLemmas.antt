@@ -38,31 +38,32 @@ fresh_stands drawn o is same s fresh = record {
 }
 
 -- a store whose owner's line was printed as `Prints` says
-pub makes : (Prints : List ℕ → List ℕ → List ℕ → Type 0) (limits : Limits) (o : OwnerView) (left_before left_after shown : Option (List ℕ)) (may_leave : List ℕ → Type 0)
-    (written_before written_after : Option (List ℕ)) → making.Makes limits left_before left_after shown o → IsDurable may_leave shown
-    → WhereBothTold written_before written_after (Prints (owner_line o.key)) → Makes Prints left_before left_after shown may_leave written_before written_after
-makes Prints limits o left_before left_after shown may_leave written_before written_after store durable printed = record {
-  drawn = store.0;
-  drawn_length = store.1.all_drawn;
-  next = store.2;
-  shows = store.3;
-  settled = λ s told.
-      let whole = fresh_stands store.0 o store.1.owner store.1.same_key s (store.3 s told) in
-      record {
-        shows = (s, told, whole);
-        leaves = λ c left.
-            let same : s ≡ c = let both = sym told ∙ durable c left in cc in
-            subst (StandsWholeForJournal (piece store.0 0) (making.made_with (making.root_keys store.0))) same whole;
-      };
-  printed = subst (λ (key : List ℕ). WhereBothTold written_before written_after (Prints (owner_line key))) store.1.same_key printed;
-}
+pub makes : (Prints : List ℕ → List ℕ → List ℕ → Type 0) (limits : Limits) (o : OwnerView) (left_before left_after was shown : Option (List ℕ)) (may_leave : List ℕ → Type 0)
+    (since : List ℕ → List ℕ → Type 0) (written_before written_after : Option (List ℕ)) → making.Makes limits left_before left_after was shown since o → IsDurable may_leave shown
+    → WhereBothTold written_before written_after (Prints (owner_line o.key)) → Makes Prints left_before left_after was shown may_leave since written_before written_after
+makes Prints limits o left_before left_after was shown may_leave since written_before written_after store durable printed =
+    let drawn = store.hands.drawn in
+    record {
+      hands = store.hands;
+      shows = store.fresh;
+      settled = λ s told.
+          let whole = fresh_stands drawn o store.owner.owner store.owner.same_key s (store.fresh s told) in
+          record {
+            shows = (s, told, whole);
+            leaves = λ c left.
+                let same : s ≡ c = let both = sym told ∙ durable c left in cc in
+                subst (StandsWholeForJournal (piece drawn 0) (making.made_with (making.root_keys drawn))) same whole;
+          };
+      printed = subst (λ (key : List ℕ). WhereBothTold written_before written_after (Prints (owner_line key))) store.owner.same_key printed;
+    }
 
 -- a store takes 192 bytes: where one was made there were no fewer
-pub never_fewer : (limits : Limits) (o : OwnerView) (before after shown : Option (List ℕ)) (status : Status) → is_some after ≡ is_some before
-    → making.Makes limits before after shown o → WhereTold before (EndsShort status)
-never_fewer limits o before after shown status told store x was fewer =
-    let again = told_again before after x told was in
-    absurd (omega (arith, ap length (store.2 x again.0 was again.1), length-append store.0 again.0, store.1.all_drawn, fewer))
+pub never_fewer : (limits : Limits) (o : OwnerView) (before after was shown : Option (List ℕ)) (since : List ℕ → List ℕ → Type 0) (status : Status) → is_some after ≡ is_some before
+    → making.Makes limits before after was shown since o → WhereTold before (EndsShort status)
+never_fewer limits o before after was shown since status told store x had fewer =
+    let again = told_again before after x told had in
+    let hands = store.hands in
+    absurd (omega (arith, ap length (hands.next_bytes x again.0 had again.1), length-append hands.drawn again.0, hands.all_drawn, fewer))
 
 -- a source that ended tells how short it was
 pub is_short : (left need : ℕ) (before after : Option (List ℕ)) → is_some after ≡ is_some before → (need ≡ fresh_draw_len) × (left < fresh_draw_len) × WhereBothTold before after (λ x y. (length x ≡ left) × (y ≡ []))

@@ -91,28 +91,25 @@ Announces _ key before after = Unit {0}
 
 -- The next 192 bytes of the random source were drawn, and at the moment of `start` the store stood that `make` makes of them. From that
 -- moment on the lines of the script were applied, as one session over its journal, with the random bytes behind these. Up to then the disk
--- was handed the writes of that store, and from then on those of the session's batches, and nothing else. No stop since then
--- takes back what was published when it comes, or at an earlier one of these moments.
+-- was handed the writes of that store, and from then on those of the session's batches, and nothing else. No stop since then takes back
+-- what was published when it comes, or at an earlier one of these moments. All that is said of the store speaks of the same drawn bytes.
 pub record Generates {D : Type 0} (disks : disk.Ghosts D) (status : Status) (seed count : ℕ) (left_before left_after : Option (List ℕ))
     (disk_old disk_new : D) (written_before written_after : Option (List ℕ)) : Type 0 where
-  pub drawn : List ℕ
-  pub drawn_length : length drawn ≡ fresh_draw_len
   pub behind : Option (List ℕ)
-  pub next : WhereBothTold left_before behind (λ before after. before ≡ drawn ++ after)
   pub behind_told : is_some behind ≡ is_some left_before
   pub start : D
-  pub stands : StandsMade disks drawn disk_old start
   pub hands : HandsFresh (Unit {0}) left_before behind (disks.shown disk_old) (disks.shown start)
       (disks.since start (disks.moment disk_old))
+  pub stands : StandsMade disks hands.drawn disk_old start
   pub later : disks.moment start ≤ disks.moment disk_new
   pub time : GoesOn (disks.moment start) (disks.since start) (disks.since disk_new)
-  pub fills : WhereTold (disks.shown disk_new) (λ s. Fills status seed count (piece drawn 0) (made_with (root_keys drawn))
+  pub fills : WhereTold (disks.shown disk_new) (λ s. Fills status seed count (piece hands.drawn 0) (made_with (root_keys hands.drawn))
       (unheard behind left_after (disks.shown disk_new)) (disks.may_leave disk_new)
-      (LinesKeepUpTo (piece drawn 0) (made_with (root_keys drawn)) (disks.shown start) (disks.shown disk_new)
+      (LinesKeepUpTo (piece hands.drawn 0) (made_with (root_keys hands.drawn)) (disks.shown start) (disks.shown disk_new)
       (disks.since disk_new (disks.moment start))) written_before written_after)
-  pub published : WhereTold (disks.shown disk_new) (λ s. LinesPublish (piece drawn 0) (made_with (root_keys drawn))
+  pub published : WhereTold (disks.shown disk_new) (λ s. LinesPublish (piece hands.drawn 0) (made_with (root_keys hands.drawn))
       (disks.since disk_new (disks.moment start)) (FromThenOn disks.moment disks.since start disk_new))
-  pub announced : Announces status (piece drawn 0) written_before written_after
+  pub announced : Announces status (piece hands.drawn 0) written_before written_after
 
 -- no store was made: for want of memory, before anything was drawn; or the random source failed or ended in the draw for it, and
 -- nothing was written; or the disk failed behind that draw, and was handed the first of the writes of the store and no other

@@ -1,5 +1,5 @@
 -- What `make` leaves. This project's own, docs/PROGRAM.md, "The program".
-use Rattle.std.specs.Prelude.{◌≡◌, ◌<◌, ◌≤◌, ◌⊎◌, ℕ, List, [], ◌++◌, length, Option, is_some}
+use Rattle.std.specs.Prelude.{◌≡◌, ◌<◌, ◌≤◌, ◌⊎◌, ℕ, List, [], length, Option, is_some}
 use Rattle.commit_journal.specs.Holding.{GoesOn}
 use Rattle.cry_io.specs.Stops.{IsDurable}
 use Rattle.cry_io.specs.Told.{WhereTold, WhereBothTold}
@@ -7,7 +7,7 @@ use Rattle.cry_io.specs.declared.disk.Disk as disk
 use Rattle.journal_bytes.specs.Journals.{IsSettled}
 use Rattle.key_links.specs.Fresh.{fresh_draw_len, fresh_image, fresh_store_len, piece}
 use Rattle.script_text.specs.Printing.{owner_line}
-use Rattle.store_owner.specs.Making.{made_with, root_keys}
+use Rattle.store_owner.specs.Making.{HandsFresh, made_with, root_keys}
 use Rattle.cli_base.specs.declared.status.Status.{Status}
 use Rattle.cli_base.specs.declared.status.Status.TheVariants.{RandomFault, RandomShort, OutOfMemory}
 
@@ -15,16 +15,14 @@ use Rattle.cli_base.specs.declared.status.Status.TheVariants.{RandomFault, Rando
 abbrev pub line_drawn : List ℕ → List ℕ
 line_drawn drawn = owner_line (piece drawn 0)
 
--- The next 192 bytes of the random source were drawn, the disk shows the store that they make, settled at its journal, and its owner's line
--- was printed as `Prints` says.
-pub record Makes (Prints : List ℕ → List ℕ → List ℕ → Type 0) (left_before left_after shown : Option (List ℕ)) (may_leave : List ℕ
-    → Type 0) (written_before written_after : Option (List ℕ)) : Type 0 where
-  pub drawn : List ℕ
-  pub drawn_length : length drawn ≡ fresh_draw_len
-  pub next : WhereBothTold left_before left_after (λ before after. before ≡ drawn ++ after)
-  pub shows : WhereTold shown (λ s. s ≡ fresh_image drawn)
-  pub settled : WhereTold shown (λ s. IsSettled (piece drawn 0) (made_with (root_keys drawn)) shown may_leave)
-  pub printed : WhereBothTold written_before written_after (Prints (line_drawn drawn))
+-- The next 192 bytes of the random source were drawn, and the disk was handed the writes of the store that they make. It shows that store,
+-- settled at its journal, and its owner's line was printed as `Prints` says.
+pub record Makes (Prints : List ℕ → List ℕ → List ℕ → Type 0) (left_before left_after was shown : Option (List ℕ))
+    (may_leave : List ℕ → Type 0) (since : List ℕ → List ℕ → Type 0) (written_before written_after : Option (List ℕ)) : Type 0 where
+  pub hands : HandsFresh (Unit {0}) left_before left_after was shown since
+  pub shows : WhereTold shown (λ s. s ≡ fresh_image hands.drawn)
+  pub settled : WhereTold shown (λ s. IsSettled (piece hands.drawn 0) (made_with (root_keys hands.drawn)) shown may_leave)
+  pub printed : WhereBothTold written_before written_after (Prints (line_drawn hands.drawn))
 
 -- The store of these bytes stands at a moment of a call: the disk shows exactly its image, all of it is synced, and a stop then leaves that
 -- and nothing else.

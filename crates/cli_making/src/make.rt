@@ -38,14 +38,12 @@ pub fn make<R: Source, D: Disk, W: Sink>(
     ensures disk_fault { result ≡ Status.DiskFault → D.faults disk.old < D.faults disk.new }
     ensures write_fault { result ≡ Status.WriteFault → W.faults out.old < W.faults out.new }
 
-    ensures made { result ≡ Status.Done → Makes PrintsAll
-        (R.left random.old) (R.left random.new) (D.shown disk.new) (D.may_leave disk.new) (W.written out.old) (W.written out.new) }
-    ensures cut_short { result ≡ Status.WriteFault → Makes PrintsFront
-        (R.left random.old) (R.left random.new) (D.shown disk.new) (D.may_leave disk.new) (W.written out.old) (W.written out.new) }
+    ensures made { result ≡ Status.Done → Makes PrintsAll (R.left random.old) (R.left random.new) (D.shown disk.old) (D.shown disk.new)
+        (D.may_leave disk.new) (D.since disk.new (D.moment disk.old)) (W.written out.old) (W.written out.new) }
+    ensures cut_short { result ≡ Status.WriteFault → Makes PrintsFront (R.left random.old) (R.left random.new) (D.shown disk.old)
+        (D.shown disk.new) (D.may_leave disk.new) (D.since disk.new (D.moment disk.old)) (W.written out.old) (W.written out.new) }
     ensures stays { (result ≡ Status.Done) ⊎ (result ≡ Status.WriteFault) →
         IsDurable (D.may_leave disk.new) (D.shown disk.new) × (D.size_of disk.new ≡ fresh_store_len) }
-    ensures hands { (result ≡ Status.Done) ⊎ (result ≡ Status.WriteFault) → HandsFresh (Unit {0}) (R.left random.old) (R.left random.new)
-        (D.shown disk.old) (D.shown disk.new) (D.since disk.new (D.moment disk.old)) }
     ensures hands_some { result ≡ Status.DiskFault → HandsFresh ⊥ (R.left random.old) (R.left random.new)
         (D.shown disk.old) (D.shown disk.new) (D.since disk.new (D.moment disk.old)) }
 

@@ -15,6 +15,7 @@ module _ (limits : Limits) (key : List ℕ) (m : Journal) (lines : List InputLin
     asked = run.asked;
     asks = run.asks;
     session = run.session;
+    stood = run.stood;
     draws = run.draws;
     leaves = run.leaves;
     kept = more run.session.now run.kept;
@@ -27,6 +28,7 @@ module _ (limits : Limits) (key : List ℕ) (m : Journal) (lines : List InputLin
     rest = run.rest;
     asks = run.asks;
     session = run.session;
+    stood = run.stood;
     draws = run.draws;
     leaves = run.leaves;
     kept = more run.session.now run.kept;

@@ -74,6 +74,18 @@ faulted_undone (Applying faults.DiskFault) is = absurd (false≢true (ap is_done
 faulted_undone (Applying faults.Closed) is = absurd (false≢true (ap is_done is))
 faulted_undone (Applying faults.OutOfMemory) is = absurd (false≢true (ap is_done is))
 
+-- and need no upgrade
+pub faulted_needs_none : {X : Type 0} (fault : ScriptFault) → script_status fault ≡ statuses.NeedsUpgrade → X
+faulted_needs_none (BadLine line) is = absurd cc
+faulted_needs_none ReadFault is = absurd cc
+faulted_needs_none WriteFault is = absurd cc
+faulted_needs_none OutOfMemory is = absurd cc
+faulted_needs_none (Applying faults.RandomFault) is = absurd cc
+faulted_needs_none (Applying (faults.RandomShort had need)) is = absurd cc
+faulted_needs_none (Applying faults.DiskFault) is = absurd cc
+faulted_needs_none (Applying faults.Closed) is = absurd cc
+faulted_needs_none (Applying faults.OutOfMemory) is = absurd cc
+
 -- the input's count rose where its fault is told
 pub faulted_reads : (fault : ScriptFault) (old new : ℕ) → ReadsByCount {U = Unit {0}} (Err fault) old new → script_status fault ≡ statuses.ReadFault → old < new
 faulted_reads (BadLine line) old new counts is = absurd (false≢true (ap is_read_fault is))
@@ -87,7 +99,7 @@ faulted_reads (Applying faults.Closed) old new counts is = absurd (false≢true 
 faulted_reads (Applying faults.OutOfMemory) old new counts is = absurd (false≢true (ap is_read_fault is))
 
 -- and the output's where its fault is
-pub faulted_writes : (fault : ScriptFault) (old new : ℕ) → WritesByCount (Err fault) old new → script_status fault ≡ statuses.WriteFault → old < new
+pub faulted_writes : (fault : ScriptFault) (old new : ℕ) → WritesByCount {U = Unit {0}} (Err fault) old new → script_status fault ≡ statuses.WriteFault → old < new
 faulted_writes (BadLine line) old new counts is = absurd (false≢true (ap is_write_fault is))
 faulted_writes ReadFault old new counts is = absurd (false≢true (ap is_write_fault is))
 faulted_writes WriteFault old new counts is = counts

@@ -154,6 +154,22 @@ unopened_isnt_done (opening.Tampered batch at) is = absurd cc
 unopened_isnt_done opening.DiskFault is = absurd cc
 unopened_isnt_done opening.OutOfMemory is = absurd cc
 
+pub unopened_is_early : (fault : OpenFault) → is_after_opening (open_status fault) ≡ false
+unopened_is_early opening.NotAStore = refl
+unopened_is_early opening.WrongKey = refl
+unopened_is_early (opening.Damaged at) = refl
+unopened_is_early (opening.Tampered batch at) = refl
+unopened_is_early opening.DiskFault = refl
+unopened_is_early opening.OutOfMemory = refl
+
+-- and one that ends at its first line is none that ends behind the opening
+pub first_is_early : (fault : ScriptFault) → IsReading fault → (old new : ℕ) → CountsOwner (Err fault) old new → is_after_opening (script_status fault) ≡ false
+first_is_early (BadLine line) reading old new count = subst (λ l. is_after_opening (statuses.BadScript l) ≡ false) (sym count) refl
+first_is_early ReadFault reading old new count = refl
+first_is_early OutOfMemory reading old new count = refl
+first_is_early WriteFault reading old new count = absurd reading
+first_is_early (Applying fault) reading old new count = absurd reading
+
 pub unopened_isnt_behind : {P : Type 0} (fault : OpenFault) → IsTrue (is_after_opening (open_status fault)) → P
 unopened_isnt_behind opening.NotAStore is = absurd (false≢true is)
 unopened_isnt_behind opening.WrongKey is = absurd (false≢true is)

@@ -1,12 +1,10 @@
 -- Which version a store is of over which a run ends so.
 use Rattle.std.proofs.Common.{◌≡◌, ◌≢◌, ℕ, List, Option, refl, sym, subst}
-use Rattle.std.specs.Prelude.{IsTrue}
 use Rattle.std.proofs.lemmas.Bool.{false≢true}
 use Rattle.commit_journal.specs.declared.fault.OpenFault.{OpenFault}
 use Rattle.cli_base.specs.declared.status.Status.{Status}
 use Rattle.cli_base.specs.declared.status.Status.TheVariants as statuses
 use Rattle.cli_running.specs.Running.{HandsInFirst, TellsVersion}
-use Rattle.cli_running.proofs.RunOpening.{unopened_isnt_behind}
 use Rattle.cli_sessions.specs.Opening.{IsOfVersion, open_status}
 use Rattle.cli_sessions.proofs.StoreOpening.{each_unopened}
 use Rattle.cli_sessions.proofs.Versions.{KeepsVersion, second_told, versions_told}

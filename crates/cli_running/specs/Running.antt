@@ -1,6 +1,6 @@
 -- What `run` answers, prints and leaves: on every disk, and on one that shows a journal. This project's own,
 -- docs/PROGRAM.md, "The program".
-use Rattle.std.specs.Prelude.{◌≡◌, ◌≤◌, ◌⊎◌, ℕ, ◌+◌, ◌==◌, nat_lt, Bool, true, false, List, [], ◌∷◌, ◌++◌, length, Option}
+use Rattle.std.specs.Prelude.{◌≡◌, ◌≢◌, ◌≤◌, ◌⊎◌, ℕ, ◌+◌, ◌==◌, nat_lt, Bool, true, false, List, [], ◌∷◌, ◌++◌, length, Option}
 use Rattle.std.specs.Prelude.{IsTrue, Some, None, Result, Ok, Err}
 use Rattle.cry_base.specs.Requests.{Request}
 use Rattle.cry_base.specs.declared.commands.Reply.{Reply}
@@ -15,7 +15,9 @@ use Rattle.cli_base.specs.Input.{TakesLines}
 use Rattle.script_text.specs.Cutting.{IsOneLine}
 use Rattle.cli_base.specs.Lines.{AreOfLines, InputLine, input_limit, lines_of}
 use Rattle.cli_base.specs.Lines.InputLine.{Whole, TooLong}
-use Rattle.cli_sessions.specs.Opening.{IsOfVersion, Judges}
+use Rattle.cli_base.specs.World.{Senses, World}
+use Rattle.cli_sessions.specs.Acting.{OwnerRan, place_of}
+use Rattle.cli_sessions.specs.Opening.{HasOpened, IsOfVersion, Judges, LeavesUnopened}
 use Rattle.cli_sessions.specs.Stopping.{KeepsUpTo}
 use Rattle.cli_sessions.specs.Script.{Asks, IsBadFirst, PrintsCut, spell_replies}
 use Rattle.cli_sessions.specs.declared.script.ScriptFault.{ScriptFault}
@@ -125,30 +127,38 @@ EndsTyped status asked typed seen could_leave since may_leave = (key : List ℕ)
 abbrev pub lines_typed : List ℕ → List InputLine
 lines_typed typed = lines_behind (lines_in typed)
 
--- the first lines ask for this, and the next one for a command too
-abbrev pub AsksNext : List Request → List InputLine → Type 0
-AsksNext asked lines = (next : Request) × (rest : List InputLine) × Asks (asked ++ next ∷ []) lines rest
+-- so many of these lines ask for this, and then come the others
+abbrev pub AsksLines : List Request → ℕ → List InputLine → List InputLine → Type 0
+AsksLines asked answered lines rest = (asks : Asks asked lines rest) × (length asks.lines ≡ answered)
+
+-- the first lines ask for this and a command more, which is the next line's
+abbrev pub AsksNext : List Request → ℕ → List InputLine → Type 0
+AsksNext asked answered lines = (next : Request) × (rest : List InputLine) × AsksLines (asked ++ next ∷ []) (answered + 1) lines rest
 
 -- how many lines were answered: none before the opening, nor in a store that needs an upgrade; and the bad line is the first of all, or the
 -- one behind those that were answered
-abbrev pub CountsAnswered : Status → List Request → Type 0
-CountsAnswered (statuses.BadScript line) asked = (line ≡ 1) × (asked ≡ []) ⊎ (line ≡ length asked + 2)
-CountsAnswered statuses.NotAStore asked = asked ≡ []
-CountsAnswered statuses.WrongKey asked = asked ≡ []
-CountsAnswered (statuses.Damaged at) asked = asked ≡ []
-CountsAnswered (statuses.Tampered batch at) asked = asked ≡ []
-CountsAnswered statuses.NeedsUpgrade asked = asked ≡ []
-CountsAnswered _ asked = Unit {0}
+abbrev pub CountsAnswered : Status → List Request → ℕ → Type 0
+CountsAnswered (statuses.BadScript line) asked answered = (line ≡ 1) × (asked ≡ []) × (answered ≡ 0) ⊎ (line ≡ answered + 2)
+CountsAnswered statuses.NotAStore asked answered = (asked ≡ []) × (answered ≡ 0)
+CountsAnswered statuses.WrongKey asked answered = (asked ≡ []) × (answered ≡ 0)
+CountsAnswered (statuses.Damaged at) asked answered = (asked ≡ []) × (answered ≡ 0)
+CountsAnswered (statuses.Tampered batch at) asked answered = (asked ≡ []) × (answered ≡ 0)
+CountsAnswered statuses.NeedsUpgrade asked answered = (asked ≡ []) × (answered ≡ 0)
+CountsAnswered _ asked answered = Unit {0}
 
--- which of these lines were answered: at Done all; before a bad one those before it; else the first ones, and behind them a fault
--- of the random source, or of the disk once the store was opened, met a command too
-abbrev pub AnswersLines : Status → List Request → List InputLine → Type 0
-AnswersLines statuses.Done asked lines = Asks asked lines []
-AnswersLines (statuses.BadScript line) asked lines = (line ≡ 1) ⊎ ((rest : List InputLine) × Asks asked lines rest × IsBadFirst rest)
-AnswersLines (statuses.RandomShort left need) asked lines = AsksNext asked lines
-AnswersLines statuses.RandomFault asked lines = AsksNext asked lines
-AnswersLines statuses.DiskFault asked lines = (asked ≡ []) ⊎ AsksNext asked lines
-AnswersLines _ asked lines = (rest : List InputLine) × Asks asked lines rest
+-- which of these lines were answered: at Done all; before a bad one those before it; else the first ones. A fault of the random source, or
+-- of the disk once the store was opened, met a command of the line behind them, of which the first commands may have been answered; so it
+-- may be without memory.
+abbrev pub AnswersLines : Status → List Request → ℕ → List InputLine → Type 0
+AnswersLines statuses.Done asked answered lines = AsksLines asked answered lines []
+AnswersLines (statuses.BadScript line) asked answered lines =
+    (line ≡ 1) ⊎ ((rest : List InputLine) × AsksLines asked answered lines rest × IsBadFirst rest)
+AnswersLines (statuses.RandomShort left need) asked answered lines = AsksNext asked answered lines
+AnswersLines statuses.RandomFault asked answered lines = AsksNext asked answered lines
+AnswersLines statuses.DiskFault asked answered lines = (asked ≡ []) × (answered ≡ 0) ⊎ AsksNext asked answered lines
+AnswersLines statuses.OutOfMemory asked answered lines =
+    ((rest : List InputLine) × AsksLines asked answered lines rest) ⊎ AsksNext asked answered lines
+AnswersLines _ asked answered lines = (rest : List InputLine) × AsksLines asked answered lines rest
 
 -- what was printed: each reply; after a write fault or without memory a front of it, without more than the last reply
 abbrev pub PrintsAnswers : Status → List Reply → List ℕ → List ℕ → Type 0
@@ -156,14 +166,32 @@ PrintsAnswers statuses.WriteFault replies before after = PrintsCut replies befor
 PrintsAnswers statuses.OutOfMemory replies before after = PrintsCut replies before after
 PrintsAnswers _ replies before after = after ≡ before ++ spell_replies replies
 
--- The lines of a run: these were asked and answered, each with one reply, in their order; and the replies are what was printed.
-pub record RanLines (status : Status) (asked : List Request) (lines : List ℕ → List InputLine) (typed before after : Option (List ℕ))
-    : Type 0 where
+-- The lines of a run: so many were answered, in their order, by these commands, each with one reply; and the replies are what was printed.
+-- Each line asked for a command at least.
+pub record RanLines (status : Status) (asked : List Request) (number : ℕ) (lines : List ℕ → List InputLine)
+    (typed before after : Option (List ℕ)) : Type 0 where
   pub replies : List Reply
   pub one_each : length replies ≡ length asked
-  pub counted : CountsAnswered status asked
-  pub answered : WhereTold typed (λ bytes. AnswersLines status asked (lines bytes))
+  pub within : number ≤ length asked
+  pub counted : CountsAnswered status asked number
+  pub answered : WhereTold typed (λ bytes. AnswersLines status asked number (lines bytes))
   pub printed : WhereBothTold before after (PrintsAnswers status replies)
+
+-- the store wasn't opened: it ended before that, and no line was answered
+pub record RunsUnopened {S R D W : Type 0} (see : Senses S R D W) (status : Status) (asked : List Request) (answered : ℕ)
+    (before after : World S R D W) : Type 0 where
+  pub left : LeavesUnopened HandsInFirst see status before after
+  pub early : is_after_opening status ≡ false
+  pub none_asked : asked ≡ []
+  pub none_answered : answered ≡ 0
+
+-- the store was opened; and then its owner went through the lines, where it isn't of version 1
+pub record RunsOpened {S R D W : Type 0} (see : Senses S R D W) (status : Status) (asked : List Request) (answered : ℕ)
+    (before after : World S R D W) : Type 0 where
+  pub opened : HasOpened HandsInFirst statuses.NeedsUpgrade 2 see status before after
+  pub ran : status ≢ statuses.NeedsUpgrade → OwnerRan status asked answered lines_typed (see.inputs.left before.input)
+      (place_of opened.owner (see.randoms.left before.random) (see.disks.shown opened.opened)) (see.randoms.left after.random)
+      (see.disks.shown after.disk) (see.outs.written before.out) (see.outs.written after.out)
 
 -- some line among them is bad
 abbrev pub HasBadLine : List InputLine → Type 0
@@ -171,23 +199,24 @@ HasBadLine lines = (front rest : List InputLine) × (lines ≡ front ++ rest) ×
 
 -- ---- where the input failed
 
--- The first of these lines were asked, and no other had ended in what was taken of the input: it is of no more lines than were asked, and
--- of the front of the next one, within the limit. A bad line is told before more is read.
-pub record ReadsWhole (asked : List Request) (lines : List InputLine) (typed left : List ℕ) : Type 0 where
+-- So many of these lines were answered, and no other had ended in what was taken of the input: it is of no more lines than were answered,
+-- and of the front of the next one, within the limit. A bad line is told before more is read.
+pub record ReadsWhole (asked : List Request) (answered : ℕ) (lines : List InputLine) (typed left : List ℕ) : Type 0 where
   pub given : List ℕ
   pub front : List ℕ
   pub room : ℕ
   pub taken : typed ≡ given ++ (front ++ left)
-  pub of_lines : AreOfLines (length asked) given
+  pub of_lines : AreOfLines answered given
   pub one : IsOneLine front
   pub within : length front ≤ room
-  pub asks : Asks asked lines (lines_of room (front ++ left))
+  pub asks : AsksLines asked answered lines (lines_of room (front ++ left))
 
--- so it is with the lines behind the first; or that one had not ended, and none was asked
-abbrev pub ReadsWholeTyped : List Request → List ℕ → List ℕ → Type 0
-ReadsWholeTyped asked typed left =
-    ((asked ≡ []) × (front : List ℕ) × IsOneLine front × (length front ≤ input_limit) × (typed ≡ front ++ left))
-    ⊎ ((first behind : List ℕ) × AreOfLines 1 first × (typed ≡ first ++ behind) × ReadsWhole asked (lines_typed typed) behind left)
+-- so it is with the lines behind the first; or that one had not ended, and none was answered
+abbrev pub ReadsWholeTyped : List Request → ℕ → List ℕ → List ℕ → Type 0
+ReadsWholeTyped asked answered typed left =
+    ((asked ≡ []) × (answered ≡ 0) × (front : List ℕ) × IsOneLine front × (length front ≤ input_limit) × (typed ≡ front ++ left))
+    ⊎ ((first behind : List ℕ) × AreOfLines 1 first × (typed ≡ first ++ behind)
+    × ReadsWhole asked answered (lines_typed typed) behind left)
 
 -- ---- how much of the input was taken
 

@@ -18,15 +18,16 @@ ghost use Rattle.cli_sessions.specs.Published.{LinesPublish};
 ghost use Rattle.cli_running.specs.FirstLine.{HandedIn};
 ghost use Rattle.cli_running.specs.Promises.Run.{RunEnds};
 ghost use Rattle.cli_running.specs.Published.{PublishesTyped};
-ghost use Rattle.cli_running.specs.Running.{CountsOwner, EndsTyped, FirstIsBad, GivesOwner, HandsInFirst, HasBadLine, JudgesTyped};
-ghost use Rattle.cli_running.specs.Running.{RanLines, TellsVersion};
+ghost use Rattle.cli_running.specs.Running.{CountsOwner, EndsTyped, FirstIsBad, GivesOwner, HasBadLine, JudgesTyped};
+ghost use Rattle.cli_running.specs.Running.{RanLines, RunsOpened, RunsUnopened, TellsVersion};
 ghost use Rattle.cli_running.specs.Running.{ReadsWhole, ReadsWholeTyped, TakesBehindFirst, TakesTo, is_after_opening, is_before_opening};
 ghost use Rattle.cli_running.specs.Running.{is_run_answer, key_in_lines, line_ended, lines_in, lines_typed};
 ghost use Rattle.cli_sessions.specs.Sessions.{Ends, KeepsFrom, RanDry, seen_from, version_limits};
 ghost use Rattle.cli_sessions.specs.Script.{IsReading, ReadsByCount};
 ghost use Rattle.cli_sessions.specs.Stopping.{LinesKeepUpTo};
 ghost use Rattle.cli_sessions.specs.Taking.{HoldsFew, TakesOne};
-ghost use Rattle.cli_sessions.specs.Opening.{HasOpened, Judges, LeavesUnopened};
+ghost use Rattle.cli_sessions.specs.Acting.{OwnerRan, place_of};
+ghost use Rattle.cli_sessions.specs.Opening.{Judges};
 
 use crate::key_line::read_owner;
 use cli_base::lines::{LineReader, Next, NextFault};
@@ -59,22 +60,22 @@ pub fn run<S: Source, R: Source, D: Disk, W: Sink>(
         (FromThenOn D.moment D.since disk.old disk.new)) }
     ensures later { D.moment disk.old ≤ D.moment disk.new }
     ensures time { GoesOn (D.moment disk.old) (D.since disk.old) (D.since disk.new) }
-    ensures lines { (asked : List Request) × RanLines result asked lines_typed (S.left input.old) (W.written out.old) (W.written out.new)
-        × WhereBothTold (S.left input.old) (S.left input.new) (TakesTo (line_ended result (length asked)))
-        × (result ≡ Status.ReadFault → WhereBothTold (S.left input.old) (S.left input.new) (ReadsWholeTyped asked))
+    ensures lines { (asked : List Request) × (answered : ℕ) × RanLines result asked answered lines_typed (S.left input.old)
+        (W.written out.old) (W.written out.new)
+        × WhereBothTold (S.left input.old) (S.left input.new) (TakesTo (line_ended result answered))
+        × (result ≡ Status.ReadFault → WhereBothTold (S.left input.old) (S.left input.new) (ReadsWholeTyped asked answered))
         × WhereTold (S.left input.old) (λ typed. EndsTyped result asked typed
         (seen_from (R.left random.old) (R.left random.new) (D.shown disk.old) (D.shown disk.new) (W.written out.old) (W.written out.new))
-        (D.may_leave disk.old) (D.since disk.new (D.moment disk.old)) (D.may_leave disk.new)) }
+        (D.may_leave disk.old) (D.since disk.new (D.moment disk.old)) (D.may_leave disk.new))
+        × (let see = senses_of S.Source R.Source D.Disk W.Sink in
+        let before = world_of input.old random.old disk.old out.old in
+        let after = world_of input.new random.new disk.new out.new in
+        RunsUnopened see result asked answered before after ⊎ RunsOpened see result asked answered before after) }
     ensures bad_line { WhereTold (S.left input.old) (λ typed. HasBadLine (lines_typed typed) → result ≢ Status.Done) }
     ensures key_line { result ≡ Status.BadScript 1 → WhereTold (S.left input.old) (λ typed. key_in_lines (lines_in typed) ≡ None) }
     ensures short { (left need : ℕ) → result ≡ Status.RandomShort left need → RanDry left need (R.left random.old) (R.left random.new) }
     ensures read_to_end { result ≡ Status.Done → WhereTold (S.left input.new) (λ rest. rest ≡ []) }
     ensures stays { IsTrue (is_after_opening result) → IsDurable (D.may_leave disk.new) (D.shown disk.new) }
-    ensures opening { let see = senses_of S.Source R.Source D.Disk W.Sink in
-        let before = world_of input.old random.old disk.old out.old in
-        let after = world_of input.new random.new disk.new out.new in
-        LeavesUnopened HandsInFirst see result before after
-        ⊎ HasOpened HandsInFirst Status.NeedsUpgrade 2 see result before after }
     ensures version { TellsVersion result (S.left input.old) (D.shown disk.old) }
     ensures unasked { result ≡ Status.NeedsUpgrade → (random.new ≡ random.old) × (out.new ≡ out.old) }
     ensures unopened { IsTrue (is_before_opening result) → (random.new ≡ random.old) × (disk.new ≡ disk.old) × (out.new ≡ out.old) }
@@ -179,20 +180,24 @@ fn apply_lines<S: Source, R: Source, D: Disk, W: Sink>(
         → LinesPublish key m (D.since disk.new (D.moment disk.old)) (FromThenOn D.moment D.since disk.old disk.new) }
     ensures later { D.moment disk.old ≤ D.moment disk.new }
     ensures time { GoesOn (D.moment disk.old) (D.since disk.old) (D.since disk.new) }
-    ensures lines { (asked : List Request) × RanLines result asked (lines_ahead reader) (S.left input.old) (W.written out.old)
-        (W.written out.new)
+    ensures lines { (asked : List Request) × (answered : ℕ) × RanLines result asked answered (lines_ahead reader) (S.left input.old)
+        (W.written out.old) (W.written out.new)
         × (HoldsFew reader → WhereBothTold (S.left input.old) (S.left input.new)
-        (TakesBehindFirst (bytes_ahead reader) (line_ended result (length asked))))
+        (TakesBehindFirst (bytes_ahead reader) (line_ended result answered)))
         × (result ≡ Status.ReadFault → WhereBothTold (S.left input.old) (S.left input.new)
-        (λ before after. ReadsWhole asked (lines_ahead reader before) (bytes_ahead reader before) after))
+        (λ before after. ReadsWhole asked answered (lines_ahead reader before) (bytes_ahead reader before) after))
         × WhereTold (S.left input.old) (λ left. (key : List ℕ) (m : Journal) (was : Option (List ℕ)) →
         StandsAt version_limits key (opened m []) owner (D.shown disk.old) → KeepsFrom (length (image_of key m)) was (D.shown disk.old) →
         Ends result version_limits key m asked (lines_ahead reader left)
         (seen_from (R.left random.old) (R.left random.new) was (D.shown disk.new) (W.written out.old) (W.written out.new))
-        (D.may_leave disk.new) (LinesKeepUpTo key m (D.shown disk.old) (D.shown disk.new) (D.since disk.new (D.moment disk.old)))) }
+        (D.may_leave disk.new) (LinesKeepUpTo key m (D.shown disk.old) (D.shown disk.new) (D.since disk.new (D.moment disk.old))))
+        × (result ≢ Status.NeedsUpgrade → OwnerRan result asked answered (lines_ahead reader) (S.left input.old)
+        (place_of owner (R.left random.old) (D.shown disk.old)) (R.left random.new) (D.shown disk.new) (W.written out.old)
+        (W.written out.new)) }
     ensures short { (left need : ℕ) → result ≡ Status.RandomShort left need → RanDry left need (R.left random.old) (R.left random.new) }
     ensures none_of_bytes { (verdict : Option Failure) → verdict ≡ None → Judges result verdict }
-    ensures needs { result ≡ Status.NeedsUpgrade → (owner.state.keys.version ≡ 1) × (random.new ≡ random.old) × (out.new ≡ out.old) }
+    ensures needs { result ≡ Status.NeedsUpgrade
+        → (owner.state.keys.version ≡ 1) × (random.new ≡ random.old) × (disk.new ≡ disk.old) × (out.new ≡ out.old) }
     ensures new { result ≢ Status.NeedsUpgrade → owner.state.keys.version ≢ 1 }
     ensures read_to_end { result ≡ Status.Done → WhereTold (S.left input.new) (λ rest. rest ≡ []) }
     ensures stays { IsTrue (is_after_opening result) → IsDurable (D.may_leave disk.new) (D.shown disk.new) }

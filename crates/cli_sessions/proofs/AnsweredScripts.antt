@@ -55,7 +55,7 @@ pub record Goes (limits : Limits) (g : Going) (asked : List Request) (given : Li
 same_told : (told : Option (List ℕ)) (x y : List ℕ) → told ≡ Some x → told ≡ Some y → x ≡ y
 same_told told x y one other = let both = sym one ∙ other in cc
 
-goes_nowhere : (limits : Limits) (g : Going) (left : Option (List ℕ)) → Goes limits g [] [] g left left
+pub goes_nowhere : (limits : Limits) (g : Going) (left : Option (List ℕ)) → Goes limits g [] [] g left left
 unfolding script_going script_replies
 goes_nowhere limits g left = record {
   drawn = [];
@@ -65,7 +65,7 @@ goes_nowhere limits g left = record {
   replied = λ rest. refl;
 }
 
-goes_further : (limits : Limits) (g h k : Going) (rs : List Request) (given : List Reply) (r : Request) (reply : Reply) (first middle last : Option (List ℕ))
+pub goes_further : (limits : Limits) (g h k : Going) (rs : List Request) (given : List Reply) (r : Request) (reply : Reply) (first middle last : Option (List ℕ))
     → is_some middle ≡ is_some first → Goes limits g rs given h first middle → GoesOn limits h k r reply middle last
     → Goes limits g (rs ++ r ∷ []) (given ++ reply ∷ []) k first last
 goes_further limits g h k rs given r reply first middle last told some more = record {
@@ -87,6 +87,12 @@ goes_further limits g h k rs given r reply first middle last told some more = re
       ∙ ap (λ replies. replies ++ line_reply (with_draws h (joined more.drawn ++ rest)) r (answer limits h.journal h.begun r) ∷ []) (some.replied (joined more.drawn ++ rest))
       ∙ ap (λ last. given ++ last ∷ []) (more.replied rest);
 }
+
+pub goes_drawn : (limits : Limits) (g h k : Going) (rs : List Request) (given : List Reply) (r : Request) (reply : Reply) (first middle last : Option (List ℕ))
+    → (told : is_some middle ≡ is_some first) (some : Goes limits g rs given h first middle) (more : GoesOn limits h k r reply middle last)
+    → (goes_further limits g h k rs given r reply first middle last told some more).drawn ≡ some.drawn ++ more.drawn
+unfolding goes_further
+goes_drawn limits g h k rs given r reply first middle last told some more = refl
 
 module _ (X : Type 0) (scene : X → Scene) (leaves : X → List ℕ → Type 0) (since : X → ℕ → List ℕ → List ℕ → Type 0) (Step : X → Request → Reply → X → Type 0)
     (is : (x : X) (r : Request) (reply : Reply) (y : X) → Step x r reply y → AnswersIn (scene x) r reply (scene y) (leaves x) (leaves y) (since x) (since y)) (start : X) where

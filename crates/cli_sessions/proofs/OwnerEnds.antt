@@ -1,5 +1,5 @@
 -- Where the log of an owner ends, and what is kept behind it.
-use Rattle.std.proofs.Common.{◌≡◌, ◌+◌, ℕ, drop, List, length, Option, arith, ap, subst, sym, ◌∙◌}
+use Rattle.std.proofs.Common.{◌≡◌, ◌+◌, ℕ, List, length, Option, arith, ap, subst, sym, ◌∙◌}
 use Rattle.commit_journal.specs.Image.{image}
 use Rattle.journal_bytes.specs.Bytes.{batches_of, image_of}
 use Rattle.public_fold.specs.Journal.{Journal}

@@ -9,6 +9,7 @@ use Rattle.cry_base.specs.declared.commands.Reply.TheVariants as replies
 use Rattle.cry_io.specs.Stops.{IsDurable}
 use Rattle.cli_sessions.specs.OwnerSteps.{AnswersIn, FailsIn, Scene}
 use Rattle.public_fold.specs.Journal.{Journal}
+use Rattle.store_owner.specs.Acting.{Acts}
 use Rattle.store_owner.specs.Applying.{Answers, DiskCounts, IsKeptBy, UnlessDiskFault}
 use Rattle.store_owner.specs.Drawing.{FillsByCount}
 use Rattle.store_owner.specs.Deeds.Deed.{Commanded}
@@ -43,15 +44,17 @@ pub step_answers : {R D : Type 0} (left : R → Option (List ℕ)) (random_fault
     → DiskCounts result (disk_faults d) (disk_faults e) → FillsByCount result (random_faults x) (random_faults y)
     → OnOk result (TakesKeys (left x) (left y))
     → ((had need : ℕ) → result ≡ Err (faults.RandomShort had need) → FallsShort o (Commanded r) had need (left x) (left y)) → n.key ≡ o.key
+    → Acts result (Commanded r) o n (left x) (left y) (shown d) (shown e)
     → MatchResult result
     (λ reply. AnswersIn (scene left random_faults shown moment disk_faults o x d) r reply (scene left random_faults shown moment disk_faults n y e)
     (may_leave d) (may_leave e) (since d) (since e) × PublishesOn o (shown d) (may_leave d) (FromThenOn moment since d e))
     (λ fault. FailsIn (scene left random_faults shown moment disk_faults o x d) r fault (scene left random_faults shown moment disk_faults n y e)
     (may_leave d) (may_leave e) (since d) (since e) × (fault ≢ faults.DiskFault → IsDurable (may_leave e) (shown e))
     × PublishesOn o (shown d) (may_leave d) (FromThenOn moment since d e))
-step_answers left rf shown moment df may_leave since (Ok (replies.Refused why)) r o n x y d e answers published later time closed unclosed kept calm counted st lt dc rc draws short same = (
+step_answers left rf shown moment df may_leave since (Ok (replies.Refused why)) r o n x y d e answers published later time closed unclosed kept calm counted st lt dc rc draws short same acts = (
   record {
     answers = answers;
+    acts = acts;
     later = later;
     time = time;
     same_key = same;
@@ -65,9 +68,10 @@ step_answers left rf shown moment df may_leave since (Ok (replies.Refused why)) 
   },
   published,
 )
-step_answers left rf shown moment df may_leave since (Ok replies.Done) r o n x y d e answers published later time closed unclosed kept calm counted st lt dc rc draws short same = (
+step_answers left rf shown moment df may_leave since (Ok replies.Done) r o n x y d e answers published later time closed unclosed kept calm counted st lt dc rc draws short same acts = (
   record {
     answers = answers;
+    acts = acts;
     later = later;
     time = time;
     same_key = same;
@@ -81,9 +85,10 @@ step_answers left rf shown moment df may_leave since (Ok replies.Done) r o n x y
   },
   published,
 )
-step_answers left rf shown moment df may_leave since (Ok (replies.Made holder key)) r o n x y d e answers published later time closed unclosed kept calm counted st lt dc rc draws short same = (
+step_answers left rf shown moment df may_leave since (Ok (replies.Made holder key)) r o n x y d e answers published later time closed unclosed kept calm counted st lt dc rc draws short same acts = (
   record {
     answers = answers;
+    acts = acts;
     later = later;
     time = time;
     same_key = same;
@@ -97,9 +102,10 @@ step_answers left rf shown moment df may_leave since (Ok (replies.Made holder ke
   },
   published,
 )
-step_answers left rf shown moment df may_leave since (Err faults.RandomFault) r o n x y d e answers published later time closed unclosed kept calm counted st lt dc rc draws short same = (
+step_answers left rf shown moment df may_leave since (Err faults.RandomFault) r o n x y d e answers published later time closed unclosed kept calm counted st lt dc rc draws short same acts = (
   record {
     answers = answers;
+    acts = acts;
     later = later;
     time = time;
     left_told = lt;
@@ -116,9 +122,10 @@ step_answers left rf shown moment df may_leave since (Err faults.RandomFault) r 
   λ no. calm,
   published,
 )
-step_answers left rf shown moment df may_leave since (Err (faults.RandomShort had need)) r o n x y d e answers published later time closed unclosed kept calm counted st lt dc rc draws short same = (
+step_answers left rf shown moment df may_leave since (Err (faults.RandomShort had need)) r o n x y d e answers published later time closed unclosed kept calm counted st lt dc rc draws short same acts = (
   record {
     answers = answers;
+    acts = acts;
     later = later;
     time = time;
     left_told = lt;
@@ -135,9 +142,10 @@ step_answers left rf shown moment df may_leave since (Err (faults.RandomShort ha
   λ no. calm,
   published,
 )
-step_answers left rf shown moment df may_leave since (Err faults.DiskFault) r o n x y d e answers published later time closed unclosed kept calm counted st lt dc rc draws short same = (
+step_answers left rf shown moment df may_leave since (Err faults.DiskFault) r o n x y d e answers published later time closed unclosed kept calm counted st lt dc rc draws short same acts = (
   record {
     answers = answers;
+    acts = acts;
     later = later;
     time = time;
     left_told = lt;
@@ -154,12 +162,13 @@ step_answers left rf shown moment df may_leave since (Err faults.DiskFault) r o 
   λ no. absurd (no refl),
   published,
 )
-step_answers left rf shown moment df may_leave since (Err faults.Closed) r o n x y d e answers published later time closed unclosed kept calm counted st lt dc rc draws short same =
+step_answers left rf shown moment df may_leave since (Err faults.Closed) r o n x y d e answers published later time closed unclosed kept calm counted st lt dc rc draws short same acts =
     let shut : IsTrue o.journal.is_closed = closed.0 refl in
     absurd cc
-step_answers left rf shown moment df may_leave since (Err faults.OutOfMemory) r o n x y d e answers published later time closed unclosed kept calm counted st lt dc rc draws short same = (
+step_answers left rf shown moment df may_leave since (Err faults.OutOfMemory) r o n x y d e answers published later time closed unclosed kept calm counted st lt dc rc draws short same acts = (
   record {
     answers = answers;
+    acts = acts;
     later = later;
     time = time;
     left_told = lt;

@@ -15,7 +15,7 @@ use Rattle.journal_bytes.specs.Script.{Going, opened}
 use Rattle.journal_bytes.proofs.Grown.{batches_grow, journal_recovered}
 use Rattle.public_fold.specs.Journal.{Journal}
 use Rattle.cli_base.specs.Lines.{LineState}
-use Rattle.cli_sessions.specs.OwnerSteps.{Scene}
+use Rattle.cli_sessions.specs.OwnerSteps.{Scene, StandsIn}
 use Rattle.cli_sessions.specs.Published.{KeepsBatches, LinesPublish}
 use Rattle.cli_sessions.specs.Sessions.{version_limits}
 use Rattle.cli_sessions.specs.Script.{Answered, Ran}
@@ -75,6 +75,9 @@ module _ (R D : Type 0) (left : R → Option (List ℕ)) (random_faults : R → 
   abbrev Meets : OwnerView × R × D → Request → ApplyFault → OwnerView × R × D → Type 0
   Meets = Fails R D left random_faults shown disk_faults may_leave moment since
 
+  abbrev Stood : OwnerView × R × D → ℕ → List Request → Type 0
+  Stood x n commands = StandsIn x.0 n commands
+
   abbrev place : OwnerView × R × D → Scene
   place = scene R D left random_faults shown disk_faults may_leave moment since
 
@@ -85,7 +88,7 @@ module _ (R D : Type 0) (left : R → Option (List ℕ)) (random_faults : R → 
   still d = time_still (moment d) (since d) (shown d) (may_leave d) (λ s c at. present d s c at) (λ t s c early is leaves. counted d t s c early is leaves)
 
   -- where the session stands, and what was published till then
-  record Reached (at : OwnerView × R × D) : Type 0 where
+  pub record Reached (at : OwnerView × R × D) : Type 0 where
     pub going : Going
     pub stands_there : IsScene version_limits key going (place at)
     pub order : moment start.2 ≤ moment at.2
@@ -115,19 +118,19 @@ module _ (R D : Type 0) (left : R → Option (List ℕ)) (random_faults : R → 
       }
 
   -- one call more, of which a stop leaves what was there
-  further_kept : (at : OwnerView × R × D) (p : Reached at) (next : D) → On at.2 next (HasPublished key) → KeepsBatches key p.going.journal (since next (moment at.2))
+  pub further_kept : (at : OwnerView × R × D) (p : Reached at) (next : D) → On at.2 next (HasPublished key) → KeepsBatches key p.going.journal (since next (moment at.2))
       → On start.2 next (HasPublished key)
   further_kept at p next kept has =
       on_in_both D moment since (HasPublished key) start.2 at.2 next still p.kept kept
       (λ s c t l is later. prefix_trans (published_batches key s) (batches_of key p.going.journal) (recovered key l) (reached_within at p s c is) (has t l later))
 
-  further_has : (at : OwnerView × R × D) (p : Reached at) (next : D) → GoesOn (moment at.2) (since at.2) (since next) → KeepsBatches key p.going.journal (since next (moment at.2))
+  pub further_has : (at : OwnerView × R × D) (p : Reached at) (next : D) → GoesOn (moment at.2) (since at.2) (since next) → KeepsBatches key p.going.journal (since next (moment at.2))
       → KeepsBatches key m (since next (moment start.2))
   further_has at p next time has =
       in_both (moment start.2) (moment at.2) (since at.2) (since next) (λ s c. IsPrefix (batches_of key m) (recovered key c)) p.order time p.has
       (λ s c is. prefix_trans (batches_of key m) (batches_of key p.going.journal) (recovered key c) (batches_grow key m p.going.journal p.grown) (has s c is))
 
-  published_to : (asked : List Request) (given : List Reply) (at : OwnerView × R × D) → Answered Goes start asked given at → Reached at
+  pub published_to : (asked : List Request) (given : List Reply) (at : OwnerView × R × D) → Answered Goes start asked given at → Reached at
   published_to asked given at Begun = begun
   published_to asked given at (Then {asked = rs} {replies = told} {x = x} {y = y} {request = r} {reply = reply} before step) =
       let p = published_to rs told x before in
@@ -155,11 +158,11 @@ module _ (R D : Type 0) (left : R → Option (List ℕ)) (random_faults : R → 
       }
 
   -- all was answered
-  all_publish : (asked : List Request) (given : List Reply) → Answered Goes start asked given end → LinesPublish key m (since end.2 (moment start.2)) (On start.2 end.2)
+  pub all_publish : (asked : List Request) (given : List Reply) → Answered Goes start asked given end → LinesPublish key m (since end.2 (moment start.2)) (On start.2 end.2)
   all_publish asked given answers = let p = published_to asked given end answers in record { kept = p.kept; has = p.has }
 
   -- the last command met a fault
-  stop_publish : (fault : ApplyFault) (asked : List Request) (given : List Reply) (x : OwnerView × R × D) → Answered Goes start asked given x → (r : Request) → Meets x r fault end
+  pub stop_publish : (fault : ApplyFault) (asked : List Request) (given : List Reply) (x : OwnerView × R × D) → Answered Goes start asked given x → (r : Request) → Meets x r fault end
       → LinesPublish key m (since end.2 (moment start.2)) (On start.2 end.2)
   stop_publish fault asked given x answers r meets =
       let p = published_to asked given x answers in
@@ -174,11 +177,11 @@ module _ (R D : Type 0) (left : R → Option (List ℕ)) (random_faults : R → 
         has = further_has x p end.2 meets.0.time has;
       }
 
-  pub publish_lines : (result : Result (Unit {0}) ScriptFault) → Ran Goes Meets result start end old new left_before left_after out_before out_after
+  pub publish_lines : (result : Result (Unit {0}) ScriptFault) → Ran Goes Meets Stood result start end old new left_before left_after out_before out_after
       → LinesPublish key m (since end.2 (moment start.2)) (On start.2 end.2)
-  publish_lines (Ok tt) ran = all_publish ran.asked ran.replies ran.stands
-  publish_lines (Err (BadLine line)) ran = all_publish ran.asked ran.replies ran.stands
-  publish_lines (Err ReadFault) ran = all_publish ran.asked ran.replies ran.stands
-  publish_lines (Err WriteFault) ran = all_publish ran.asked ran.replies ran.stands
-  publish_lines (Err OutOfMemory) ran = all_publish ran.asked ran.replies ran.stands
-  publish_lines (Err (Applying fault)) ran = stop_publish fault ran.stands.1 ran.replies ran.stands.0 ran.stands.4 ran.stands.2 ran.stands.5
+  publish_lines (Ok tt) ran = all_publish ran.went.asked ran.went.replies ran.went.stands
+  publish_lines (Err (BadLine line)) ran = all_publish ran.went.asked ran.went.replies ran.went.stands
+  publish_lines (Err ReadFault) ran = all_publish ran.went.asked ran.went.replies ran.went.stands
+  publish_lines (Err WriteFault) ran = all_publish ran.went.asked ran.went.replies ran.went.stands
+  publish_lines (Err OutOfMemory) ran = all_publish ran.went.asked ran.went.replies ran.went.stands
+  publish_lines (Err (Applying fault)) ran = stop_publish fault ran.went.stands.1 ran.went.replies ran.went.stands.0 ran.went.stands.4 ran.went.stands.2 ran.went.stands.5

@@ -1,32 +1,34 @@
 -- How the lines of a run end, on a disk that shows a journal.
-use Rattle.std.proofs.Common.{◌≡◌, ◌≢◌, ⊎_elim, ℕ, Bool, cond, drop, List, [], ◌∷◌, ◌++◌, length, map, ◌+◌, ◌*◌, Option, Some, None, Result, Ok, Err, inr, append_assoc, arith, refl, sym, ap, subst, ◌∙◌}
+use Rattle.std.proofs.Common.{◌≡◌, ◌≢◌, ⊎_elim, ℕ, Bool, true, false, cond, drop, List, [], ◌∷◌, ◌++◌, length, length-append, ◌+◌, ◌*◌, Option, Some, None, Result, Ok, Err, inr, append_assoc, arith, refl, sym, ap, subst, ◌∙◌}
 use Rattle.std.specs.Prelude.{is_some}
 use Rattle.std.proofs.lemmas.Bool.{false≢true}
-use Rattle.std.proofs.lemmas.List.{map-append}
+use Rattle.std.proofs.lemmas.List.{append-nil}
 use Rattle.commit_journal.specs.Holding.{IsPrefix}
 use Rattle.commit_journal.proofs.KeptLemmas.{prefix_same}
-use Rattle.commit_journal.specs.Image.{image}
 use Rattle.cry_base.specs.Requests.{Request}
 use Rattle.cry_base.specs.declared.commands.Reply.{Reply}
 use Rattle.cry_base.specs.declared.limits.Limits.{Limits}
 use Rattle.cry_io.specs.Stops.{IsDurable}
 use Rattle.cry_io.specs.Told.{WhereBothTold}
 use Rattle.cry_io.proofs.ToldLemmas.{both_told_through}
-use Rattle.journal_bytes.specs.Bytes.{batches_of, image_of}
+use Rattle.journal_bytes.specs.Bytes.{image_of}
 use Rattle.journal_bytes.specs.Script.{Going, answer, draws_of, journal_then, opened}
-use Rattle.script_text.specs.Commands.{request_in}
-use Rattle.cli_sessions.specs.Sessions.{HasApplied, IsStop, StopsApplying, Ends, HasRun, KeepsBehind, KeepsFrom, LeavesAt, PrintsThese, RanCut, RanShort, RanTo, RanUndrawn, RanUnwritten, Seen, SessionOver, ended_status, script_status}
+use Rattle.group_book.specs.Asked.{StoodFor}
+use Rattle.script_text.specs.Tasks.{Task}
+use Rattle.cli_sessions.specs.Sessions.{HasApplied, IsStop, StopsApplying, Ends, HasRun, KeepsBehind, KeepsFrom, LeavesAt, PrintsThese, RanCut, RanShort, RanTo, RanUndrawn, RanUnwritten, Seen, SessionOver, Stood as StoodSo, ended_status, script_status}
 use Rattle.cli_base.specs.Lines.{InputLine, LineState, lines_ahead}
-use Rattle.cli_base.specs.Lines.InputLine.{Whole}
-use Rattle.cli_sessions.specs.OwnerSteps.{AnswersIn, FailsIn, Scene}
-use Rattle.cli_sessions.specs.Script.{Answered, Asks, IsBadFirst, PrintsCut, Ran, spell_replies}
+use Rattle.cli_sessions.specs.OwnerSteps.{AnswersIn, FailsIn, Scene, StandsIn}
+use Rattle.cli_sessions.specs.Script.{Answered, AskThese, Asks, Blocks, EndsIn, IsBadFirst, PrintsCut, Ran, answered_in, commands_in, spell_replies}
 use Rattle.cli_sessions.specs.Stopping.{LinesKeepUpTo}
 use Rattle.cli_sessions.specs.declared.script.ScriptFault.{ScriptFault}
 use Rattle.cli_sessions.specs.declared.script.ScriptFault.TheVariants.{BadLine, ReadFault, WriteFault, OutOfMemory, Applying}
-use Rattle.cli_sessions.proofs.AnsweredScripts.{IsNow, IsScene, answered_script, joined_more, told_stays}
+use Rattle.cli_sessions.proofs.AnsweredScripts.{IsNow, IsScene, joined_more}
+use Rattle.cli_sessions.proofs.FewerLines.{asks_fewer, lines_counted}
+use Rattle.cli_sessions.proofs.LineScripts.{Reached, StoodBy, blocks_reach, commands_more, ends_reach}
 use Rattle.cli_sessions.proofs.OwnerEnds.{owner_end}
 use Rattle.cli_sessions.proofs.StopLemmas.{Stays, rests_settled, stays_on, stops_on}
-use Rattle.cli_sessions.proofs.ScriptLemmas.{answered_of, asks_none, whole_is_cut}
+use Rattle.cli_sessions.proofs.ScriptLemmas.{asks_none, whole_is_cut}
+use Rattle.cli_sessions.proofs.StoodLemmas.{stood_cut}
 use Rattle.public_fold.specs.Journal.{Journal}
 use Rattle.public_fold.specs.Journal.Entry.{Session, Did}
 use Rattle.store_owner.proofs.OwnerGoesOn.{drops_more}
@@ -52,33 +54,6 @@ accepted_there : (limits : Limits) (key : List ℕ) (g : Going) (x : Scene) (r :
 accepted_there limits key g x r stands e =
     subst (λ (l : Limits). answer l g.journal g.begun r ≡ None) stands.has_limits (subst (λ b. answer (limits_in x.owner) g.journal b r ≡ None) stands.has_begun e)
 
--- without the last of what the lines ask for
-last_asked : (asked : List Request) (next : Request) (lines : List (List ℕ)) → map request_in lines ≡ map Some (asked ++ next ∷ [])
-    → (front : List (List ℕ)) × (line : List ℕ) × (lines ≡ front ++ line ∷ []) × (map request_in front ≡ map Some asked)
-last_asked [] next [] e = absurd cc
-last_asked [] next (line ∷ []) e = ([], line, refl, refl)
-last_asked [] next (line ∷ more ∷ lines) e = absurd cc
-last_asked (r ∷ asked) next [] e = absurd cc
-last_asked (r ∷ asked) next (line ∷ lines) e =
-    let first : request_in line ≡ Some r = cc in
-    let others : map request_in lines ≡ map Some (asked ++ next ∷ []) = cc in
-    let rest = last_asked asked next lines others in
-    (line ∷ rest.0, rest.1, ap (λ ls. line ∷ ls) rest.2, ap (λ o. o ∷ map request_in rest.0) first ∙ ap (λ os. Some r ∷ os) rest.3)
-
-pub asks_fewer : (asked : List Request) (next : Request) (before after : List InputLine) → Asks (asked ++ next ∷ []) before after
-    → (line : List ℕ) × Asks asked before (Whole line ∷ after)
-asks_fewer asked next before after asks =
-    let split = last_asked asked next asks.lines asks.asked_are in (
-      split.1,
-      record {
-        lines = split.0;
-        before_is =
-            asks.before_is ∙ ap (λ ls. map Whole ls ++ after) split.2 ∙ ap (λ ls. ls ++ after) (map-append Whole split.0 (split.1 ∷ []))
-            ∙ append_assoc (map Whole split.0) (Whole split.1 ∷ []) after;
-        asked_are = split.3;
-      },
-    )
-
 -- the figures of an owner who counted all of a journal are the journal's
 abbrev pub TallyTold : Type 0
 TallyTold = (m : Journal) (o : OwnerView) → IsOwnerOf m o → o.tally ≡ counted_in m → tally_in o ≡ tally_of m
@@ -88,8 +63,24 @@ abbrev pub IsCalm : (List ℕ → Type 0) → Option (List ℕ) → Result (Unit
 IsCalm may_leave shown (Err (Applying faults.DiskFault)) = Unit {0}
 IsCalm may_leave shown result = IsDurable may_leave shown
 
+-- what was asked is the same, and the last command too
+last_same : (xs ys : List Request) (x y : Request) → xs ++ x ∷ [] ≡ ys ++ y ∷ [] → (xs ≡ ys) × (x ≡ y)
+last_same [] [] x y is = (refl, cc)
+last_same [] (b ∷ ys) x y is =
+    let none : [] ≡ ys ++ y ∷ [] = cc in
+    absurd (omega (arith, ap length none, length-append ys (y ∷ [])))
+last_same (a ∷ xs) [] x y is =
+    let none : xs ++ x ∷ [] ≡ [] = cc in
+    absurd (omega (arith, ap length none, length-append xs (x ∷ [])))
+last_same (a ∷ xs) (b ∷ ys) x y is =
+    let first : a ≡ b = cc in
+    let others : xs ++ x ∷ [] ≡ ys ++ y ∷ [] = cc in
+    let rest = last_same xs ys x y others in
+    (ap (λ c. c ∷ xs) first ∙ ap (λ rs. b ∷ rs) rest.0, rest.1)
+
 module _ (X : Type 0) (scene : X → Scene) (leaves : X → List ℕ → Type 0) (since : X → ℕ → List ℕ → List ℕ → Type 0)
-    (Step : X → Request → Reply → X → Type 0) (Fails : X → Request → ApplyFault → X → Type 0)
+    (Step : X → Request → Reply → X → Type 0) (Fails : X → Request → ApplyFault → X → Type 0) (Stand : X → ℕ → List Request → Type 0)
+    (so : (x : X) (n : ℕ) (commands : List Request) → Stand x n commands → StandsIn (scene x).owner n commands)
     (is : (x : X) (r : Request) (reply : Reply) (y : X) → Step x r reply y → AnswersIn (scene x) r reply (scene y) (leaves x) (leaves y) (since x) (since y))
     (fails : (x : X) (r : Request) (fault : ApplyFault) (y : X) → Fails x r fault y → FailsIn (scene x) r fault (scene y) (leaves x) (leaves y) (since x) (since y))
     (limits : Limits) (key : List ℕ) (m : Journal) (start end : X) (stands : IsScene limits key (opened m []) (scene start))
@@ -97,7 +88,7 @@ module _ (X : Type 0) (scene : X → Scene) (leaves : X → List ℕ → Type 0)
     (first_shown : Option (List ℕ)) (first_kept : KeepsFrom (length (image_of key m)) first_shown (scene start).shown)
     (old new : LineState) (left_before left_after out_before out_after : Option (List ℕ)) (b a : List ℕ) (was : left_before ≡ Some b) (now : left_after ≡ Some a) where
   abbrev HasRan : Result (Unit {0}) ScriptFault → Type 0
-  HasRan result = Ran Step Fails result start end old new left_before left_after out_before out_after
+  HasRan result = Ran Step Fails Stand result start end old new left_before left_after out_before out_after
 
   abbrev ended : Seen
   ended = record {
@@ -120,7 +111,7 @@ module _ (X : Type 0) (scene : X → Scene) (leaves : X → List ℕ → Type 0)
   StaysAt j x = Stays key m j (scene start).moment (scene x).moment (scene start).shown (scene x).shown (leaves x) (since x)
 
   -- where the session stands once this was answered
-  pub record StandsThere (asked : List Request) (given : List Reply) (x : X) : Type 0 where
+  pub record StandsThere (cut : Bool) (tasks : List Task) (blocks : List (List Request)) (asked : List Request) (given : List Reply) (x : X) : Type 0 where
     pub at : Going
     pub session : SessionOver limits m asked
     pub same_now : session.now ≡ at.journal
@@ -132,32 +123,46 @@ module _ (X : Type 0) (scene : X → Scene) (leaves : X → List ℕ → Type 0)
     pub left_told : is_some (scene x).left ≡ is_some (scene start).left
     pub stays : StaysAt session.now x
     pub counted : (scene start).owner.tally ≡ counted_in m → (scene x).owner.tally ≡ counted_in session.now
+    pub stood : (rest : List ℕ) → StoodFor cut limits (opened m (joined session.drawn ++ rest)) tasks blocks
 
-  stands_there : (asked : List Request) (given : List Reply) (x : X) → Answered Step start asked given x → StandsThere asked given x
+  rests_opened : RestsAt key (opened m []).journal (scene start).shown (leaves start)
   unfolding opened
-  stands_there asked given x answered =
-      let went = answered_script X scene leaves since Step is start limits key (opened m []) stands at_first rests_first asked given x answered in
-      let g : Going = went.0 in
-      let there = went.2 in
-      let tail = went.3 in
+  rests_opened = rests_first
+
+  -- by the answers alone
+  abbrev Reach : List Request → List Reply → X → Type 0
+  Reach asked given x = Reached X scene leaves since Step Fails is start limits key (opened m []) stands at_first rests_opened asked given x
+
+  abbrev Stood : Bool → {asked : List Request} {given : List Reply} {x : X} → Reach asked given x → List Task → List (List Request) → Type 0
+  Stood cut reached tasks blocks = StoodBy X scene leaves since Step Fails is start limits key (opened m []) stands at_first rests_opened cut reached tasks blocks
+
+  stands_there : (cut : Bool) (tasks : List Task) (blocks : List (List Request)) (asked : List Request) (given : List Reply) (x : X)
+      → (reached : Reach asked given x) × Stood cut reached tasks blocks → StandsThere cut tasks blocks asked given x
+  unfolding opened
+  stands_there cut tasks blocks asked given x by =
+      let reached = by.0 in
+      let went = reached.went in
+      let g : Going = reached.at in
+      let there = reached.there in
+      let tail = reached.tail in
       let n = length (image_of key m) in
       let log_end = end_at limits key g (scene x) there in
       let began = end_at limits key (opened m []) (scene start) stands in
       record {
         at = g;
         session = record {
-          drawn = went.1.drawn;
-          drawn_sizes = went.1.drawn_sizes;
+          drawn = went.drawn;
+          drawn_sizes = went.drawn_sizes;
           replies = given;
           now = g.journal;
           begun = g.begun;
-          goes = went.1.goes;
-          replied = went.1.replied;
+          goes = went.goes;
+          replied = went.replied;
         };
         same_now = refl;
         same_begun = refl;
         same_replies = refl;
-        drew = went.1.next_bytes;
+        drew = went.next_bytes;
         there = there;
         keeps = record {
           behind = λ c y e f.
@@ -170,120 +175,193 @@ module _ (X : Type 0) (scene : X → Scene) (leaves : X → List ℕ → Type 0)
               (λ (shown : (scene x).shown ≡ (scene start).shown). subst (λ o. KeepsFrom n first_shown o) (sym shown) first_kept)
               (λ longer. absurd (let none : ⊥ = omega (arith, longer, long) in none)) tail.unchanged;
         };
-        left_told = (told_stays X scene leaves since Step is start asked given x answered).0;
-        stays = went.4;
-        counted = went.5;
+        left_told = reached.left_told;
+        stays = reached.stays;
+        counted = reached.counted;
+        stood = by.1;
       }
 
-  leaves_settled : (asked : List Request) (given : List Reply) (s : StandsThere asked given end) → Calm → LeavesAt key m s.session.now ended (leaves end)
-  leaves_settled asked given s calm = record {
+  -- all lines were answered that were begun
+  all_there : (tasks : List Task) (blocks : List (List Request)) (asked : List Request) (given : List Reply) → asked ≡ commands_in blocks → Blocks Step Fails Stand start tasks blocks given end
+      → StandsThere false tasks blocks asked given end
+  all_there tasks blocks asked given are lines =
+      stands_there false tasks blocks asked given end
+      (subst (λ rs. (reached : Reach rs given end) × Stood false reached tasks blocks) (sym are)
+      (blocks_reach X scene leaves since Step Fails is start limits key (opened m []) stands at_first rests_opened Stand so tasks blocks given end lines))
+
+  -- of the last one the first commands were
+  last_there : (result : Result (Unit {0}) ScriptFault) (tasks : List Task) (blocks : List (List Request)) (given : List Reply) (ends : EndsIn Step Fails Stand result start tasks blocks given end)
+      → (first others : List Request) → ends.block ≡ first ++ others → (y : X) → Answered Step ends.x first ends.some y
+      → (asked : List Request) → asked ≡ commands_in ends.first_blocks ++ first → StandsThere true tasks blocks asked given y
+  last_there result tasks blocks given ends first others whole y answered asked are =
+      stands_there true tasks blocks asked given y
+      (subst (λ ts. (reached : Reach asked given y) × Stood true reached ts blocks) (sym ends.tasks_are)
+      (subst (λ bs. (reached : Reach asked given y) × Stood true reached (ends.first_tasks ++ ends.task ∷ []) bs) (sym ends.blocks_are)
+      (subst (λ gs. (reached : Reach asked gs y) × Stood true reached (ends.first_tasks ++ ends.task ∷ []) (ends.first_blocks ++ ends.block ∷ [])) (sym ends.replies_are)
+      (subst (λ rs. (reached : Reach rs (ends.first_replies ++ ends.some) y) × Stood true reached (ends.first_tasks ++ ends.task ∷ []) (ends.first_blocks ++ ends.block ∷ [])) (sym are)
+      (ends_reach X scene leaves since Step Fails is start limits key (opened m []) stands at_first rests_opened Stand so ends.first_tasks ends.first_blocks ends.first_replies ends.x ends.first
+      ends.task ends.last.commands ends.block ends.some ends.last.stands_for ends.last.asked first others whole y answered)))))
+
+  -- the last one was answered to its end, or as far as it was asked
+  cut_there : (result : Result (Unit {0}) ScriptFault) (tasks : List Task) (blocks : List (List Request)) (asked : List Request) (given : List Reply)
+      → asked ≡ commands_in blocks → (ends : EndsIn Step Fails Stand result start tasks blocks given end) → Answered Step ends.x ends.block ends.some end
+      → StandsThere true tasks blocks asked given end
+  cut_there result tasks blocks asked given are ends answered =
+      last_there result tasks blocks given ends ends.block [] (sym (append-nil ends.block)) end answered asked
+      (are ∙ ap commands_in ends.blocks_are ∙ commands_more ends.first_blocks ends.block)
+
+  stood_in : (cut : Bool) (drawn : List (List ℕ)) (tasks : List Task) (blocks : List (List Request)) (asked : List Request) (before after : List InputLine)
+      → (these : AskThese tasks blocks asked before after) → ((rest : List ℕ) → StoodFor cut limits (opened m (joined drawn ++ rest)) tasks blocks)
+      → StoodSo cut limits m drawn these.0
+  stood_in cut drawn tasks blocks asked before after these stood rest =
+      subst (λ ts. StoodFor cut limits (opened m (joined drawn ++ rest)) ts these.0.blocks) (sym these.1)
+      (subst (λ bs. StoodFor cut limits (opened m (joined drawn ++ rest)) tasks bs) (sym these.2) (stood rest))
+
+  leaves_settled : (cut : Bool) (tasks : List Task) (blocks : List (List Request)) (asked : List Request) (given : List Reply) (s : StandsThere cut tasks blocks asked given end) → Calm → LeavesAt key m s.session.now ended (leaves end)
+  leaves_settled cut tasks blocks asked given s calm = record {
     settled = rests_settled key s.session.now (scene end).shown (leaves end) s.stays.rests;
     none_pending = calm;
     keeps = s.keeps;
   }
 
-  kept_to : (asked : List Request) (given : List Reply) (s : StandsThere asked given end) → KeepsTo s.session.now
-  kept_to asked given s = record { grown = s.stays.grown; kept = s.stays.kept; hands = s.stays.hands }
+  kept_to : (cut : Bool) (tasks : List Task) (blocks : List (List Request)) (asked : List Request) (given : List Reply) (s : StandsThere cut tasks blocks asked given end) → KeepsTo s.session.now
+  kept_to cut tasks blocks asked given s = record { grown = s.stays.grown; kept = s.stays.kept; hands = s.stays.hands }
 
-  printed : (asked : List Request) (given : List Reply) (x : X) (s : StandsThere asked given x) → WhereBothTold out_before out_after (λ y z. z ≡ y ++ spell_replies given)
+  printed : (cut : Bool) (tasks : List Task) (blocks : List (List Request)) (asked : List Request) (given : List Reply) (x : X) (s : StandsThere cut tasks blocks asked given x) → WhereBothTold out_before out_after (λ y z. z ≡ y ++ spell_replies given)
       → PrintsThese s.session.replies ended
-  printed asked given x s prints = subst (λ (rs : List Reply). PrintsThese rs ended) (sym s.same_replies) prints
+  printed cut tasks blocks asked given x s prints = subst (λ (rs : List Reply). PrintsThese rs ended) (sym s.same_replies) prints
 
   pub ran_all : HasRan (Ok tt) → Calm → HasRun limits key m (lines_ahead old b) [] ended (leaves end) KeepsTo
   ran_all ran calm =
-      let s = stands_there ran.asked ran.replies end ran.stands in
+      let went = ran.went in
+      let s = all_there went.tasks went.blocks went.asked went.replies went.asked_are went.by_lines in
+      let these = (ran.lines b a was now).0 in
       record {
-        asked = ran.asked;
-        asks = (ran.lines b a was now).0;
+        asked = went.asked;
+        asks = these.0;
         session = s.session;
+        stood = stood_in false s.session.drawn went.tasks went.blocks went.asked (lines_ahead old b) [] these s.stood;
         draws = s.drew;
-        leaves = leaves_settled ran.asked ran.replies s calm;
-        kept = kept_to ran.asked ran.replies s;
-        prints = printed ran.asked ran.replies end s ran.printed;
+        leaves = leaves_settled false went.tasks went.blocks went.asked went.replies s calm;
+        kept = kept_to false went.tasks went.blocks went.asked went.replies s;
+        prints = printed false went.tasks went.blocks went.asked went.replies end s ran.printed;
       }
 
   pub ran_to_bad : (line : ℕ) → HasRan (Err (BadLine line)) → old.given ≡ 1 → Calm
-      → (rest : List InputLine) × IsBadFirst rest × (run : HasRun limits key m (lines_ahead old b) rest ended (leaves end) KeepsTo) × (line ≡ length run.asked + 2)
+      → (rest : List InputLine) × IsBadFirst rest × (run : HasRun limits key m (lines_ahead old b) rest ended (leaves end) KeepsTo) × (line ≡ length run.asks.lines + 2)
   ran_to_bad line ran first calm =
-      let s = stands_there ran.asked ran.replies end ran.stands in
-      let taken = ran.lines b a was now in (
+      let went = ran.went in
+      let s = all_there went.tasks went.blocks went.asked went.replies went.asked_are went.by_lines in
+      let taken = ran.lines b a was now in
+      let count = lines_counted went.tasks went.blocks went.asked (lines_ahead old b) taken.0 taken.1 in (
         taken.0,
         taken.2,
         record {
-          asked = ran.asked;
-          asks = taken.1;
+          asked = went.asked;
+          asks = taken.1.0;
           session = s.session;
+          stood = stood_in false s.session.drawn went.tasks went.blocks went.asked (lines_ahead old b) taken.0 taken.1 s.stood;
           draws = s.drew;
-          leaves = leaves_settled ran.asked ran.replies s calm;
-          kept = kept_to ran.asked ran.replies s;
-          prints = printed ran.asked ran.replies end s ran.printed;
+          leaves = leaves_settled false went.tasks went.blocks went.asked went.replies s calm;
+          kept = kept_to false went.tasks went.blocks went.asked went.replies s;
+          prints = printed false went.tasks went.blocks went.asked went.replies end s ran.printed;
         },
-        omega (arith, ran.number, first),
+        omega (arith, ran.number, first, count),
       )
 
   pub ran_to_fault : HasRan (Err ReadFault) → Calm → (rest : List InputLine) × HasRun limits key m (lines_ahead old b) rest ended (leaves end) KeepsTo
   ran_to_fault ran calm =
-      let s = stands_there ran.asked ran.replies end ran.stands in (
+      let went = ran.went in
+      let s = all_there went.tasks went.blocks went.asked went.replies went.asked_are went.by_lines in
+      let these = ran.lines b a was now in (
         lines_ahead new a,
         record {
-          asked = ran.asked;
-          asks = ran.lines b a was now;
+          asked = went.asked;
+          asks = these.0;
           session = s.session;
+          stood = stood_in false s.session.drawn went.tasks went.blocks went.asked (lines_ahead old b) (lines_ahead new a) these s.stood;
           draws = s.drew;
-          leaves = leaves_settled ran.asked ran.replies s calm;
-          kept = kept_to ran.asked ran.replies s;
-          prints = printed ran.asked ran.replies end s ran.printed;
+          leaves = leaves_settled false went.tasks went.blocks went.asked went.replies s calm;
+          kept = kept_to false went.tasks went.blocks went.asked went.replies s;
+          prints = printed false went.tasks went.blocks went.asked went.replies end s ran.printed;
         },
       )
 
   -- nothing was asked
-  pub ran_none : Answered Step start [] [] end → WhereBothTold out_before out_after (λ y z. z ≡ y ++ spell_replies []) → Calm → (lines : List InputLine)
+  pub ran_none : Blocks Step Fails Stand start [] [] [] end → WhereBothTold out_before out_after (λ y z. z ≡ y ++ spell_replies []) → Calm → (lines : List InputLine)
       → (run : HasRun limits key m lines lines ended (leaves end) KeepsTo) × (run.asked ≡ [])
   ran_none answered prints calm lines =
-      let s = stands_there [] [] end answered in (
+      let s = all_there [] [] [] [] refl answered in
+      let these = asks_none lines in (
         record {
           asked = [];
-          asks = asks_none lines;
+          asks = these.0;
           session = s.session;
+          stood = stood_in false s.session.drawn [] [] [] lines lines these s.stood;
           draws = s.drew;
-          leaves = leaves_settled [] [] s calm;
-          kept = kept_to [] [] s;
-          prints = printed [] [] end s prints;
+          leaves = leaves_settled false [] [] [] [] s calm;
+          kept = kept_to false [] [] [] [] s;
+          prints = printed false [] [] [] [] end s prints;
         },
         refl,
       )
 
-  cut : (asked : List Request) (given : List Reply) (x : X) (s : StandsThere asked given x) → WhereBothTold out_before out_after (PrintsCut given)
+  cut_prints : (cut : Bool) (tasks : List Task) (blocks : List (List Request)) (asked : List Request) (given : List Reply) (x : X) (s : StandsThere cut tasks blocks asked given x) → WhereBothTold out_before out_after (PrintsCut given)
       → WhereBothTold out_before out_after (PrintsCut s.session.replies)
-  cut asked given x s prints = λ y z before after. subst (λ rs. PrintsCut rs y z) (sym s.same_replies) (prints y z before after)
+  cut_prints cut tasks blocks asked given x s prints = λ y z before after. subst (λ rs. PrintsCut rs y z) (sym s.same_replies) (prints y z before after)
 
   pub ran_cut : HasRan (Err WriteFault) → Calm → RanCut limits key m (lines_ahead old b) ended (leaves end) KeepsTo
   ran_cut ran calm =
-      let s = stands_there ran.asked ran.replies end ran.stands in
+      let went = ran.went in
+      let s = cut_there (Err WriteFault) went.tasks went.blocks went.asked went.replies went.asked_are went.by_lines went.by_lines.last.stands in
+      let these = ran.lines b a was now in
       record {
-        asked = ran.asked;
+        asked = went.asked;
         rest = lines_ahead new a;
-        asks = ran.lines b a was now;
+        asks = these.0;
         session = s.session;
+        stood = stood_in true s.session.drawn went.tasks went.blocks went.asked (lines_ahead old b) (lines_ahead new a) these s.stood;
         draws = s.drew;
-        leaves = leaves_settled ran.asked ran.replies s calm;
-        kept = kept_to ran.asked ran.replies s;
-        prints = cut ran.asked ran.replies end s ran.printed;
+        leaves = leaves_settled true went.tasks went.blocks went.asked went.replies s calm;
+        kept = kept_to true went.tasks went.blocks went.asked went.replies s;
+        prints = cut_prints true went.tasks went.blocks went.asked went.replies end s ran.printed;
       }
+
+  -- where all lines were answered that were begun, the last one was too
+  cut_all : (tasks : List Task) (blocks : List (List Request)) (asked : List Request) (given : List Reply) → StandsThere false tasks blocks asked given end → StandsThere true tasks blocks asked given end
+  cut_all tasks blocks asked given s = record {
+    at = s.at;
+    session = s.session;
+    same_now = s.same_now;
+    same_begun = s.same_begun;
+    same_replies = s.same_replies;
+    drew = s.drew;
+    there = s.there;
+    keeps = s.keeps;
+    left_told = s.left_told;
+    stays = s.stays;
+    counted = s.counted;
+    stood = λ rest. stood_cut limits (opened m (joined s.session.drawn ++ rest)) tasks blocks (s.stood rest);
+  }
 
   pub ran_out : HasRan (Err OutOfMemory) → Calm → RanCut limits key m (lines_ahead old b) ended (leaves end) KeepsTo
   ran_out ran calm =
-      let s = stands_there ran.asked ran.replies end ran.stands in
+      let went = ran.went in
+      let s : StandsThere true went.tasks went.blocks went.asked went.replies end =
+      ⊎_elim (λ all. cut_all went.tasks went.blocks went.asked went.replies (all_there went.tasks went.blocks went.asked went.replies went.asked_are all))
+      (λ (ends : EndsIn Step Fails Stand (Err OutOfMemory) start went.tasks went.blocks went.replies end).
+      cut_there (Err OutOfMemory) went.tasks went.blocks went.asked went.replies went.asked_are ends ends.last.stands) went.by_lines in
       let taken = ran.lines b a was now in
       record {
-        asked = ran.asked;
+        asked = went.asked;
         rest = taken.0;
-        asks = taken.1;
+        asks = taken.1.0;
         session = s.session;
+        stood = stood_in true s.session.drawn went.tasks went.blocks went.asked (lines_ahead old b) taken.0 taken.1 s.stood;
         draws = s.drew;
-        leaves = leaves_settled ran.asked ran.replies s calm;
-        kept = kept_to ran.asked ran.replies s;
-        prints = cut ran.asked ran.replies end s ran.printed;
+        leaves = leaves_settled true went.tasks went.blocks went.asked went.replies s calm;
+        kept = kept_to true went.tasks went.blocks went.asked went.replies s;
+        prints = cut_prints true went.tasks went.blocks went.asked went.replies end s ran.printed;
       }
 
   -- where the last command met a fault: the session that it met, and what was replied before it
@@ -291,27 +369,38 @@ module _ (X : Type 0) (scene : X → Scene) (leaves : X → List ℕ → Type 0)
     pub asked : List Request
     pub given : List Reply
     pub next : Request
+    pub tasks : List Task
+    pub blocks : List (List Request)
     pub x : X
-    pub s : StandsThere asked given x
+    pub s : StandsThere true tasks blocks asked given x
     pub failed : FailsIn (scene x) next fault (scene end) (leaves x) (leaves end) (since x) (since end)
-    pub asks : Asks (asked ++ next ∷ []) (lines_ahead old b) (lines_ahead new a)
+    pub these : AskThese tasks blocks (asked ++ next ∷ []) (lines_ahead old b) (lines_ahead new a)
     pub prints : PrintsThese s.session.replies ended
 
   stopped : (fault : ApplyFault) → HasRan (Err (Applying fault)) → Stopped fault
   stopped fault ran =
-      let x : X = ran.stands.0 in
-      let asked : List Request = ran.stands.1 in
-      let next : Request = ran.stands.2 in
-      let s = stands_there asked ran.replies x ran.stands.4 in
+      let went = ran.went in
+      let ends = went.by_lines in
+      let stands = ends.last.stands in
+      let first : List Request = stands.1 in
+      let last : Request = stands.2 in
+      let asked : List Request = went.stands.1 in
+      let whole : went.asked ≡ (commands_in ends.first_blocks ++ first) ++ last ∷ [] =
+      went.asked_are ∙ ap commands_in ends.blocks_are ∙ commands_more ends.first_blocks ends.block ∙ ap (λ rs. commands_in ends.first_blocks ++ rs) stands.3
+      ∙ sym (append_assoc (commands_in ends.first_blocks) first (last ∷ [])) in
+      let same = last_same asked (commands_in ends.first_blocks ++ first) went.stands.2 last (sym went.stands.3 ∙ whole) in
+      let s = last_there (Err (Applying fault)) went.tasks went.blocks went.replies ends first (last ∷ []) stands.3 stands.0 stands.4 asked same.0 in
       record {
         asked = asked;
-        given = ran.replies;
-        next = next;
-        x = x;
+        given = went.replies;
+        next = last;
+        tasks = went.tasks;
+        blocks = went.blocks;
+        x = stands.0;
         s = s;
-        failed = fails x next fault end ran.stands.5;
-        asks = subst (λ rs. Asks rs (lines_ahead old b) (lines_ahead new a)) ran.stands.3 (ran.lines b a was now);
-        prints = printed asked ran.replies x s ran.printed;
+        failed = fails stands.0 last fault end stands.5;
+        these = subst (λ rs. AskThese went.tasks went.blocks rs (lines_ahead old b) (lines_ahead new a)) (whole ∙ ap (λ rs. rs ++ last ∷ []) (sym same.0)) (ran.lines b a was now);
+        prints = printed true went.tasks went.blocks asked went.replies stands.0 s ran.printed;
       }
 
   -- the command is accepted where the owner stands, and so where the session does
@@ -328,8 +417,9 @@ module _ (X : Type 0) (scene : X → Scene) (leaves : X → List ℕ → Type 0)
     asked = t.asked;
     next = t.next;
     rest = lines_ahead new a;
-    asks = t.asks;
+    asks = t.these.0;
     session = t.s.session;
+    stood = stood_in true t.s.session.drawn t.tasks t.blocks (t.asked ++ t.next ∷ []) (lines_ahead old b) (lines_ahead new a) t.these t.s.stood;
     is_accepted = accepted fault t e;
     prints = t.prints;
   }
@@ -420,12 +510,14 @@ module _ (X : Type 0) (scene : X → Scene) (leaves : X → List ℕ → Type 0)
   ran_without ran calm =
       let t = stopped faults.OutOfMemory ran in
       let told = answers_there faults.OutOfMemory t in
-      let fewer = asks_fewer t.asked t.next (lines_ahead old b) (lines_ahead new a) t.asks in
+      let fewer = asks_fewer t.asked t.next (lines_ahead old b) (lines_ahead new a) t.these.0 in
+      let stood = stood_in true t.s.session.drawn t.tasks t.blocks (t.asked ++ t.next ∷ []) (lines_ahead old b) (lines_ahead new a) t.these t.s.stood in
       record {
         asked = t.asked;
-        rest = Whole fewer.0 ∷ lines_ahead new a;
+        rest = fewer.0;
         asks = fewer.1;
         session = t.s.session;
+        stood = λ rest. fewer.2 limits (opened m (joined t.s.session.drawn ++ rest)) (stood rest);
         draws = subst (λ left. WhereBothTold (scene start).left left (λ y z. y ≡ joined t.s.session.drawn ++ z)) (sym (t.failed.undrawn refl)) t.s.drew;
         leaves = leaves_still faults.OutOfMemory t told.1 (λ e. absurd cc) calm;
         kept = kept_still faults.OutOfMemory t told.1;
@@ -436,7 +528,7 @@ module _ (X : Type 0) (scene : X → Scene) (leaves : X → List ℕ → Type 0)
   never_closed ran = (stopped faults.Closed ran).failed.never_closed refl
 
   abbrev answered_by : (result : Result (Unit {0}) ScriptFault) → HasRan result → List Request
-  answered_by result ran = answered_of Step Fails result start end old new left_before left_after out_before out_after ran
+  answered_by result ran = answered_in Step Fails Stand result start end ran.went
 
   -- all of it by the status
   pub ends_as : (result : Result (Unit {0}) ScriptFault) (ran : HasRan result) → old.given ≡ 1 → IsCalm (leaves end) (scene end).shown result
@@ -457,15 +549,16 @@ module _ (X : Type 0) (scene : X → Scene) (leaves : X → List ℕ → Type 0)
   pub applies_all : TallyTold → HasRan (Ok tt) → Calm → (scene start).owner.tally ≡ counted_in m
       → (asked : List Request) × Asks asked (lines_ahead old b) [] × HasApplied limits key m asked (scene end).owner ended (leaves end) KeepsTo
   applies_all told ran calm all =
-      let s = stands_there ran.asked ran.replies end ran.stands in
+      let went = ran.went in
+      let s = all_there went.tasks went.blocks went.asked went.replies went.asked_are went.by_lines in
       let owner_is : IsOwnerOf s.session.now (scene end).owner = subst (λ (j : Journal). IsOwnerOf j (scene end).owner) (sym s.same_now) s.there.owner_is in (
-        ran.asked,
-        (ran.lines b a was now).0,
+        went.asked,
+        (ran.lines b a was now).0.0,
         record {
           session = s.session;
           draws = s.drew;
-          leaves = leaves_settled ran.asked ran.replies s calm;
-          kept = kept_to ran.asked ran.replies s;
+          leaves = leaves_settled false went.tasks went.blocks went.asked went.replies s calm;
+          kept = kept_to false went.tasks went.blocks went.asked went.replies s;
           same_key = s.there.has_key;
           figures = told s.session.now (scene end).owner owner_is (s.counted all);
         },

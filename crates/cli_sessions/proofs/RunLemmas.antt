@@ -14,17 +14,17 @@ use Rattle.journal_bytes.specs.Journals.{StandsWholeForJournal}
 use Rattle.journal_bytes.specs.Keys.{AreWhole}
 use Rattle.journal_bytes.specs.Script.{opened}
 use Rattle.cli_base.specs.Lines.{LineState, lines_ahead}
-use Rattle.cli_sessions.specs.OwnerSteps.{AnswersIn, FailsIn, Scene}
+use Rattle.cli_sessions.specs.OwnerSteps.{AnswersIn, FailsIn, Scene, StandsIn}
 use Rattle.cli_sessions.specs.Sessions.{Ends, KeepsFrom, RanDry, ended_status, script_status, version_limits}
-use Rattle.cli_sessions.specs.Script.{Answered, Ran, StaysReady}
-use Rattle.cli_sessions.specs.Script.Answered.{Begun}
+use Rattle.cli_sessions.specs.Script.{Answered, Ran, StaysReady, answered_in}
+use Rattle.cli_sessions.specs.Script.Blocks.{NoLine}
 use Rattle.cli_sessions.specs.Stopping.{LinesKeepUpTo}
 use Rattle.cli_sessions.specs.declared.script.ScriptFault.{ScriptFault}
 use Rattle.cli_sessions.specs.declared.script.ScriptFault.TheVariants.{BadLine, ReadFault, WriteFault, OutOfMemory, Applying}
 use Rattle.cli_base.specs.declared.status.Status.TheVariants as statuses
 use Rattle.cli_sessions.proofs.AnsweredScripts.{counts_rise, key_stays, keys_taken, time_goes, told_stays}
 use Rattle.cli_sessions.proofs.RunEnds.{IsCalm, ends_as, ran_none, still_told}
-use Rattle.cli_sessions.proofs.ScriptLemmas.{answered_of, same_told}
+use Rattle.cli_sessions.proofs.ScriptLemmas.{same_told}
 use Rattle.public_fold.specs.Journal.{Journal}
 use Rattle.store_owner.specs.Deeds.Deed.{Commanded}
 use Rattle.store_owner.specs.Owned.{OwnerView}
@@ -64,6 +64,9 @@ module _ (R D : Type 0) (left : R → Option (List ℕ)) (random_faults : R → 
       × (fault ≢ faults.DiskFault → IsDurable (may_leave y.2) (shown y.2))
       × PublishesOn x.0 (shown x.2) (may_leave x.2) (FromThenOn moment since x.2 y.2)
 
+  abbrev pub Stand : OwnerView × R × D → ℕ → List Request → Type 0
+  Stand x = StandsIn x.0
+
   -- what the disk tells of its present moment
   abbrev pub IsPresent : Type 0
   IsPresent = (d : D) (s c : List ℕ) → since d (moment d) s c → (shown d ≡ Some s) × may_leave d c
@@ -81,13 +84,13 @@ module _ (R D : Type 0) (left : R → Option (List ℕ)) (random_faults : R → 
       (may_leave x.2) (LinesKeepUpTo key m (shown x.2) (shown x.2) (since x.2 (moment x.2)))
   ends_none present x old typed written b was key m first_shown stands durable kept =
       let rests = rests_there version_limits key m x.0 (shown x.2) (may_leave x.2) stands durable in
-      let run = ran_none (OwnerView × R × D) scene leaves moments Step Fails (λ y r reply z step. step.0) (λ y r fault z failed. failed.0) version_limits key m x x stands
-      (present x.2) rests first_shown kept old old typed typed written written b b was was Begun (λ y z a c. same_told written y z a c ∙ sym (append-nil y)) durable (lines_ahead old b) in
+      let run = ran_none (OwnerView × R × D) scene leaves moments Step Fails Stand (λ y n commands so. so) (λ y r reply z step. step.0) (λ y r fault z failed. failed.0) version_limits key m x x stands
+      (present x.2) rests first_shown kept old old typed typed written written b b was was NoLine (λ y z a c. same_told written y z a c ∙ sym (append-nil y)) durable (lines_ahead old b) in
       (refl, run.0, run.1)
 
   module _ (start end : OwnerView × R × D) (old new : LineState) (left_before left_after out_before out_after : Option (List ℕ)) where
     abbrev HasRan : Result (Unit {0}) ScriptFault → Type 0
-    HasRan result = Ran Step Fails result start end old new left_before left_after out_before out_after
+    HasRan result = Ran Step Fails Stand result start end old new left_before left_after out_before out_after
 
     -- what is told stays told, and no count falls
     abbrev GoesOn : Type 0
@@ -111,7 +114,7 @@ module _ (R D : Type 0) (left : R → Option (List ℕ)) (random_faults : R → 
 
     -- where all lines were answered the owner has the key that it had
     pub same_key : HasRan (Ok tt) → end.0.key ≡ start.0.key
-    same_key ran = key_stays (OwnerView × R × D) scene leaves moments Step (λ x r reply y step. step.0) start ran.asked ran.replies end ran.stands
+    same_key ran = key_stays (OwnerView × R × D) scene leaves moments Step (λ x r reply y step. step.0) start ran.went.asked ran.went.replies end ran.went.stands
 
     -- the last command met a fault
     pub record Stops (fault : ApplyFault) : Type 0 where
@@ -126,26 +129,26 @@ module _ (R D : Type 0) (left : R → Option (List ℕ)) (random_faults : R → 
 
     stops : (fault : ApplyFault) → HasRan (Err (Applying fault)) → Stops fault
     stops fault ran =
-        let x : OwnerView × R × D = ran.stands.0 in
-        let told = told_stays (OwnerView × R × D) scene leaves moments Step (λ z r reply y step. step.0) start ran.stands.1 ran.replies x ran.stands.4 in
-        let counts = counts_rise (OwnerView × R × D) scene leaves moments Step (λ z r reply y step. step.0) start ran.stands.1 ran.replies x ran.stands.4 in
+        let x : OwnerView × R × D = ran.went.stands.0 in
+        let told = told_stays (OwnerView × R × D) scene leaves moments Step (λ z r reply y step. step.0) start ran.went.stands.1 ran.went.replies x ran.went.stands.4 in
+        let counts = counts_rise (OwnerView × R × D) scene leaves moments Step (λ z r reply y step. step.0) start ran.went.stands.1 ran.went.replies x ran.went.stands.4 in
         record {
           x = x;
-          request = ran.stands.2;
+          request = ran.went.stands.2;
           left_told = told.0;
           shown_told = told.1;
           random_counts = counts.0;
           disk_counts = counts.1;
-          taken = keys_taken (OwnerView × R × D) scene leaves moments Step (λ z r reply y step. step.0) start ran.stands.1 ran.replies x ran.stands.4;
-          failed = ran.stands.5.0;
+          taken = keys_taken (OwnerView × R × D) scene leaves moments Step (λ z r reply y step. step.0) start ran.went.stands.1 ran.went.replies x ran.went.stands.4;
+          failed = ran.went.stands.5.0;
         }
 
     pub goes_on : (result : Result (Unit {0}) ScriptFault) → HasRan result → GoesOn
-    goes_on (Ok tt) ran = answered_on ran.asked ran.replies ran.stands
-    goes_on (Err (BadLine line)) ran = answered_on ran.asked ran.replies ran.stands
-    goes_on (Err ReadFault) ran = answered_on ran.asked ran.replies ran.stands
-    goes_on (Err WriteFault) ran = answered_on ran.asked ran.replies ran.stands
-    goes_on (Err OutOfMemory) ran = answered_on ran.asked ran.replies ran.stands
+    goes_on (Ok tt) ran = answered_on ran.went.asked ran.went.replies ran.went.stands
+    goes_on (Err (BadLine line)) ran = answered_on ran.went.asked ran.went.replies ran.went.stands
+    goes_on (Err ReadFault) ran = answered_on ran.went.asked ran.went.replies ran.went.stands
+    goes_on (Err WriteFault) ran = answered_on ran.went.asked ran.went.replies ran.went.stands
+    goes_on (Err OutOfMemory) ran = answered_on ran.went.asked ran.went.replies ran.went.stands
     goes_on (Err (Applying fault)) ran =
         let s = stops fault ran in (
           s.failed.left_told ∙ s.left_told,
@@ -155,15 +158,15 @@ module _ (R D : Type 0) (left : R → Option (List ℕ)) (random_faults : R → 
         )
 
     pub time_goes_on : IsPresent → IsCounted → (result : Result (Unit {0}) ScriptFault) → HasRan result → TimeGoes
-    time_goes_on present counted (Ok tt) ran = time_to present counted ran.asked ran.replies end ran.stands
-    time_goes_on present counted (Err (BadLine line)) ran = time_to present counted ran.asked ran.replies end ran.stands
-    time_goes_on present counted (Err ReadFault) ran = time_to present counted ran.asked ran.replies end ran.stands
-    time_goes_on present counted (Err WriteFault) ran = time_to present counted ran.asked ran.replies end ran.stands
-    time_goes_on present counted (Err OutOfMemory) ran = time_to present counted ran.asked ran.replies end ran.stands
+    time_goes_on present counted (Ok tt) ran = time_to present counted ran.went.asked ran.went.replies end ran.went.stands
+    time_goes_on present counted (Err (BadLine line)) ran = time_to present counted ran.went.asked ran.went.replies end ran.went.stands
+    time_goes_on present counted (Err ReadFault) ran = time_to present counted ran.went.asked ran.went.replies end ran.went.stands
+    time_goes_on present counted (Err WriteFault) ran = time_to present counted ran.went.asked ran.went.replies end ran.went.stands
+    time_goes_on present counted (Err OutOfMemory) ran = time_to present counted ran.went.asked ran.went.replies end ran.went.stands
     time_goes_on present counted (Err (Applying fault)) ran =
-        let x : OwnerView × R × D = ran.stands.0 in
-        let before = time_to present counted ran.stands.1 ran.replies x ran.stands.4 in
-        let failed = ran.stands.5.0 in
+        let x : OwnerView × R × D = ran.went.stands.0 in
+        let before = time_to present counted ran.went.stands.1 ran.went.replies x ran.went.stands.4 in
+        let failed = ran.went.stands.5.0 in
         (omega (arith, before.0, failed.later), goes_on_then (moment start.2) (moment x.2) (since start.2) (since x.2) (since end.2) before.0 before.1 failed.time)
 
     random_rose : HasRan (Err (Applying faults.RandomFault)) → random_faults start.1 < random_faults end.1
@@ -235,11 +238,11 @@ module _ (R D : Type 0) (left : R → Option (List ℕ)) (random_faults : R → 
     calm_is A B (Err ReadFault) ran ready = ready.2
     calm_is A B (Err WriteFault) ran ready = ready.2
     calm_is A B (Err OutOfMemory) ran ready = ready.2
-    calm_is A B (Err (Applying faults.RandomFault)) ran ready = ran.stands.5.1 (λ e. absurd cc)
-    calm_is A B (Err (Applying (faults.RandomShort given need))) ran ready = ran.stands.5.1 (λ e. absurd cc)
+    calm_is A B (Err (Applying faults.RandomFault)) ran ready = ran.went.stands.5.1 (λ e. absurd cc)
+    calm_is A B (Err (Applying (faults.RandomShort given need))) ran ready = ran.went.stands.5.1 (λ e. absurd cc)
     calm_is A B (Err (Applying faults.DiskFault)) ran ready = tt
-    calm_is A B (Err (Applying faults.Closed)) ran ready = ran.stands.5.1 (λ e. absurd cc)
-    calm_is A B (Err (Applying faults.OutOfMemory)) ran ready = ran.stands.5.1 (λ e. absurd cc)
+    calm_is A B (Err (Applying faults.Closed)) ran ready = ran.went.stands.5.1 (λ e. absurd cc)
+    calm_is A B (Err (Applying faults.OutOfMemory)) ran ready = ran.went.stands.5.1 (λ e. absurd cc)
 
     pub calm_but : (fault : ScriptFault) → IsCalm (may_leave end.2) (shown end.2) (Err fault) → script_status fault ≢ statuses.DiskFault → Calm
     calm_but (BadLine line) calm other = calm
@@ -256,12 +259,12 @@ module _ (R D : Type 0) (left : R → Option (List ℕ)) (random_faults : R → 
     pub ends_so : IsPresent → (result : Result (Unit {0}) ScriptFault) (ran : HasRan result) → IsCalm (may_leave end.2) (shown end.2) result → old.given ≡ 1 → is_some left_after ≡ is_some left_before
         → (b : List ℕ) → left_before ≡ Some b → (key : List ℕ) (m : Journal) (first_shown : Option (List ℕ)) → StandsAt version_limits key (opened m []) start.0 (shown start.2)
         → IsDurable (may_leave start.2) (shown start.2) → KeepsFrom (length (image_of key m)) first_shown (shown start.2)
-        → Ends (ended_status result) version_limits key m (answered_of Step Fails result start end old new left_before left_after out_before out_after ran) (lines_ahead old b)
+        → Ends (ended_status result) version_limits key m (answered_in Step Fails Stand result start end ran.went) (lines_ahead old b)
         (record { left_before = left start.1; left_after = left end.1; was = first_shown; shown = shown end.2; written_before = out_before; written_after = out_after })
         (may_leave end.2) (LinesKeepUpTo key m (shown start.2) (shown end.2) (since end.2 (moment start.2)))
     ends_so present result ran calm first told b was key m first_shown stands durable kept =
         let after = still_told left_after left_before b told was in
         let rests = rests_there version_limits key m start.0 (shown start.2) (may_leave start.2) stands durable in
-        ends_as (OwnerView × R × D) scene leaves moments Step Fails (λ x r reply y step. step.0) (λ x r fault y failed. failed.0) version_limits key m start end stands
+        ends_as (OwnerView × R × D) scene leaves moments Step Fails Stand (λ x n commands so. so) (λ x r reply y step. step.0) (λ x r fault y failed. failed.0) version_limits key m start end stands
         (present start.2) rests first_shown kept
         old new left_before left_after out_before out_after b after.0 was after.1 result ran first calm

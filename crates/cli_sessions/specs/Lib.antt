@@ -1,3 +1,4 @@
+pub mod Acting
 pub mod Opening
 pub mod OwnerSteps
 pub mod Published

@@ -5,21 +5,22 @@
 -- outside failed or memory was wanting. Whatever it answers then, it drew and printed nothing. At each moment of the call the file is as it
 -- was, but for slots that a stop had left without their keys: where under that key every test of the log passes, these may be filled, and
 -- the one that is being filled may hold any bytes.
-use Rattle.std.specs.Prelude.{◌≡◌, ◌≢◌, ◌⊎◌, ℕ, List, Option, Some, None}
+use Rattle.std.specs.Prelude.{◌≡◌, ◌≢◌, ◌⊎◌, ◌↔◌, ◌≤◌, ℕ, List, Option, Some, None, Ok, is_some}
 use Rattle.commit_journal.specs.Answering.{Damaged, NotAStore, Tampered, WrongKey}
 use Rattle.commit_journal.specs.Moments.{OpensThroughout}
 use Rattle.commit_journal.specs.declared.fault.OpenFault.{OpenFault}
 use Rattle.commit_journal.specs.declared.fault.OpenFault.TheVariants as opening
-use Rattle.cry_base.specs.Limits.{most_store_bytes}
+use Rattle.cry_base.specs.Limits.{most_file_bytes, most_store_bytes}
 use Rattle.cry_io.specs.Stops.{IsDurable}
 use Rattle.cry_io.specs.Told.{WhereTold, WhereBothTold}
 use Rattle.cry_io.specs.declared.disk.Disk as disk
 use Rattle.journal_bytes.specs.Journals.{ShowsJournal}
-use Rattle.log_visits.specs.Asking.{verdict}
+use Rattle.log_visits.specs.Asking.{OpenStore, opened_store, verdict}
 use Rattle.log_visits.specs.Asking.Asking.{ToWrite}
 use Rattle.log_visits.specs.Judging.{Failure, OfBytes}
 use Rattle.public_fold.specs.Journal.{Journal, keys_of}
-use Rattle.store_owner.specs.Opened.{LeavesRefused}
+use Rattle.store_owner.specs.Opened.{GoesOnBehind, IsFilled, IsFresh, Keeps, LeavesRefused}
+use Rattle.store_owner.specs.Owned.{OwnerView}
 use Rattle.cli_base.specs.World.{Senses, World}
 use Rattle.cli_base.specs.declared.status.Status.{Status}
 use Rattle.cli_base.specs.declared.status.Status.TheVariants as statuses
@@ -67,12 +68,35 @@ pub record LeavesUnopened (HandsIn : List ℕ → List ℕ → Type 0) {S R D W 
       ⊎ ((key : List ℕ) × WhereTold (see.inputs.left before.input) (λ bytes. HandsIn bytes key)
       × WasTried see.disks status key before.disk after.disk)
 
--- The store was opened: under a key that the input hands in its bytes pass every test, so that no refusal of them is answered. A stop
--- leaves what is shown behind the call, unless the disk failed. But for one answer a store is of the version that the command is for.
+-- The opening of a store with a key that came to its end, as this owner: the bytes pass every test, the owner keeps what they open under
+-- that key, and goes on behind their log. At each moment, the last one too, the disk shows what it showed, and a stop leaves what it could
+-- leave before; or both are what was shown, with slots filled of that log. In the end all these slots are, and a stop leaves that.
+pub record WasOpened {D : Type 0} (disks : disk.Ghosts D) (key : List ℕ) (owner : OwnerView) (old new : D) : Type 0 where
+  pub passes : WhereTold (disks.shown old) (λ image. verdict (ToWrite key) image ≡ None)
+  pub keeps : WhereTold (disks.shown old) (λ image. (s : OpenStore) × (opened_store key image ≡ Ok s) × Keeps owner s)
+  pub behind : WhereTold (disks.shown old) (GoesOnBehind most_store_bytes key owner)
+  pub fresh : IsFresh key most_store_bytes most_file_bytes owner
+  pub told : is_some (disks.shown new) ≡ is_some (disks.shown old)
+  pub size : disks.size_of new ≡ disks.size_of old
+  pub later : disks.moment old ≤ disks.moment new
+  pub throughout : OpensThroughout most_store_bytes key (disks.shown old) (disks.may_leave old) (disks.since new (disks.moment old))
+  pub filled : WhereBothTold (disks.shown old) (disks.shown new) (IsFilled most_store_bytes key)
+  pub settled : IsDurable (disks.may_leave new) (disks.shown new)
+
+-- The store was opened, under a key that the input hands in, so that no refusal of its bytes is answered. A stop leaves what is shown
+-- behind the call, unless the disk failed. One answer refuses a store, where it is of version 1 and the command isn't for these, or the
+-- other way round: then nothing was drawn or printed, and the disk is as the opening left it. At each other the command is for such
+-- stores, and each journal that was shown is of its version.
 pub record HasOpened (HandsIn : List ℕ → List ℕ → Type 0) (refusal : Status) (version : ℕ) {S R D W : Type 0} (see : Senses S R D W)
     (status : Status) (before after : World S R D W) : Type 0 where
-  pub passes : WhereBothTold (see.inputs.left before.input) (see.disks.shown before.disk)
-      (λ bytes image. (key : List ℕ) × HandsIn bytes key × (verdict (ToWrite key) image ≡ None))
+  pub key : List ℕ
+  pub owner : OwnerView
+  pub opened : D
+  pub hands_in : WhereTold (see.inputs.left before.input) (λ bytes. HandsIn bytes key)
+  pub opening : WasOpened see.disks key owner before.disk opened
   pub unrefused : Judges status None
   pub settled : status ≢ statuses.DiskFault → IsDurable (see.disks.may_leave after.disk) (see.disks.shown after.disk)
+  pub refused : status ≡ refusal
+      → ((owner.state.keys.version ≡ 1) ↔ (version ≢ 1)) × (after ≡ record before { input = after.input; disk = opened })
+  pub taken : status ≢ refusal → (owner.state.keys.version ≡ 1) ↔ (version ≡ 1)
   pub suits : status ≢ refusal → IsOfVersion HandsIn version (see.inputs.left before.input) (see.disks.shown before.disk)

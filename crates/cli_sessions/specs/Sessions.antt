@@ -1,6 +1,6 @@
 -- What a session over a journal leaves and prints, and how the program ends where its lines do. This project's own, docs/PROGRAM.md,
 -- "The program".
-use Rattle.std.specs.Prelude.{◌≡◌, ◌<◌, ◌⊎◌, ℕ, ◌+◌, ◌*◌, Bool, List, [], ◌∷◌, ◌++◌, drop, length, Option}
+use Rattle.std.specs.Prelude.{◌≡◌, ◌<◌, ◌⊎◌, ℕ, ◌+◌, ◌*◌, Bool, true, false, List, [], ◌∷◌, ◌++◌, drop, length, Option}
 use Rattle.std.specs.Prelude.{None, Result, Ok, Err}
 use Rattle.cry_base.specs.Limits.{most_file_bytes, most_store_bytes}
 use Rattle.cry_base.specs.Requests.{Request}
@@ -8,6 +8,7 @@ use Rattle.cry_base.specs.declared.commands.Reply.{Reply}
 use Rattle.cry_base.specs.declared.limits.Limits.{Limits}
 use Rattle.cry_io.specs.Stops.{IsDurable}
 use Rattle.cry_io.specs.Told.{WhereTold, WhereBothTold}
+use Rattle.group_book.specs.Asked.{StoodFor}
 use Rattle.public_fold.specs.Journal.{Journal}
 use Rattle.journal_bytes.specs.Bytes.{image_of}
 use Rattle.journal_bytes.specs.Journals.{HoldsBetween, IsSettled, ShowsJournal}
@@ -72,6 +73,12 @@ pub record SessionOver (limits : Limits) (m : Journal) (asked : List Request) : 
       ≡ record { journal = now; begun = begun; draws = rest }
   pub replied : (rest : List ℕ) → script_replies limits (opened m (joined drawn ++ rest)) asked ≡ replies
 
+-- each of these lines was asked for the commands that it stood for in a session over m where these keys were drawn, and where `cut` is true
+-- the last one maybe for the first of them alone
+abbrev pub Stood : {asked : List Request} {before after : List InputLine} → Bool → Limits → Journal → List (List ℕ)
+    → Asks asked before after → Type 0
+Stood cut limits m drawn asks = (rest : List ℕ) → StoodFor cut limits (opened m (joined drawn ++ rest)) asks.tasks asks.blocks
+
 -- these keys were the next random bytes, where the source tells
 abbrev pub DrawsNext : List (List ℕ) → Seen → Type 0
 DrawsNext drawn seen = WhereBothTold seen.left_before seen.left_after (λ x y. x ≡ joined drawn ++ y)
@@ -87,25 +94,29 @@ pub record LeavesAt (key : List ℕ) (m now : Journal) (seen : Seen) (may_leave 
 abbrev pub PrintsThese : List Reply → Seen → Type 0
 PrintsThese replies seen = WhereBothTold seen.written_before seen.written_after (λ b a. a ≡ b ++ spell_replies replies)
 
--- The first lines were asked, and all of them answered: what was replied is printed, and the disk is where the session stands. That is the
--- journal up to which the run kept what it found; so it is in the records behind this one.
+-- The first lines were asked, each for the commands that it stood for where it came, and all of them answered: what was replied is printed,
+-- and the disk is where the session stands. That is the journal up to which the run kept what it found; so it is in the records behind this
+-- one.
 pub record HasRun (limits : Limits) (key : List ℕ) (m : Journal) (lines rest : List InputLine) (seen : Seen) (may_leave : List ℕ
     → Type 0) (KeepsTo : Journal → Type 0) : Type 0 where
   pub asked : List Request
   pub asks : Asks asked lines rest
   pub session : SessionOver limits m asked
+  pub stood : Stood false limits m session.drawn asks
   pub draws : DrawsNext session.drawn seen
   pub leaves : LeavesAt key m session.now seen may_leave
   pub kept : KeepsTo session.now
   pub prints : PrintsThese session.replies seen
 
--- The first lines were asked and answered, and what was replied is printed but for some of the last reply.
+-- The first lines were asked and answered, the last one maybe for the first of its commands alone, and what was replied is printed but for
+-- some of the last reply.
 pub record RanCut (limits : Limits) (key : List ℕ) (m : Journal) (lines : List InputLine) (seen : Seen) (may_leave : List ℕ
     → Type 0) (KeepsTo : Journal → Type 0) : Type 0 where
   pub asked : List Request
   pub rest : List InputLine
   pub asks : Asks asked lines rest
   pub session : SessionOver limits m asked
+  pub stood : Stood true limits m session.drawn asks
   pub draws : DrawsNext session.drawn seen
   pub leaves : LeavesAt key m session.now seen may_leave
   pub kept : KeepsTo session.now
@@ -119,6 +130,7 @@ pub record RanTo (limits : Limits) (m : Journal) (lines : List InputLine) (seen 
   pub rest : List InputLine
   pub asks : Asks (asked ++ next ∷ []) lines rest
   pub session : SessionOver limits m asked
+  pub stood : Stood true limits m session.drawn asks
   pub is_accepted : answer limits session.now session.begun next ≡ None
   pub prints : PrintsThese session.replies seen
 
@@ -169,7 +181,7 @@ Ends statuses.Done limits key m asked lines seen may_leave KeepsTo =
     (run : HasRun limits key m lines [] seen may_leave KeepsTo) × (run.asked ≡ asked)
 Ends (statuses.BadScript line) limits key m asked lines seen may_leave KeepsTo =
     (rest : List InputLine) × IsBadFirst rest × (run : HasRun limits key m lines rest seen may_leave KeepsTo)
-    × (line ≡ length run.asked + 2) × (run.asked ≡ asked)
+    × (line ≡ length run.asks.lines + 2) × (run.asked ≡ asked)
 Ends statuses.NeedsUpgrade limits key m asked lines seen may_leave KeepsTo =
     (asked ≡ []) × (run : HasRun limits key m lines lines seen may_leave KeepsTo) × (run.asked ≡ [])
 Ends statuses.ReadFault limits key m asked lines seen may_leave KeepsTo = (asked ≡ []) × IsUnopened key m seen KeepsTo

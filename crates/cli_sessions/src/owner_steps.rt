@@ -1,7 +1,8 @@
 //! The owner of a store, as what applies the commands of `run`.
 use crate::script::Applies;
-use cry_base::{Command, Reply, Steps};
+use cry_base::{Command, HolderId, List, Mem, Reply, Steps};
 use cry_io::{Disk, Source};
+use group_book::commands_for;
 use std::alloc::Global;
 use store_owner::{ApplyFault, Owner};
 
@@ -9,7 +10,7 @@ impl<R: Source, D: Disk> Applies<R, D> for Owner {
     ghost use Rattle.std.specs.Prelude.{◌≡◌, ◌≢◌, ◌≤◌, false};
     ghost use Rattle.batch_log.specs.Moments.{FromThenOn};
     ghost use Rattle.cry_io.specs.Stops.{IsDurable};
-    ghost use Rattle.cli_sessions.specs.OwnerSteps.{AnswersIn, FailsIn};
+    ghost use Rattle.cli_sessions.specs.OwnerSteps.{AnswersIn, FailsIn, StandsIn};
     ghost use Rattle.store_owner.specs.Published.{PublishesOn};
     ghost use Rattle.store_owner.specs.declared.apply_fault.ApplyFault.TheVariants as faults;
 
@@ -61,13 +62,24 @@ impl<R: Source, D: Disk> Applies<R, D> for Owner {
         × (fault ≢ faults.DiskFault → IsDurable (D.may_leave after.2) (D.shown after.2))
         × PublishesOn before.0 (D.shown before.2) (D.may_leave before.2) (FromThenOn D.moment D.since before.2 after.2) };
 
+    ghost replaces = { λ o n commands. StandsIn o n commands };
+
+    ghost can_replace = { λ o. o.journal.is_closed ≡ false };
+
+    ghost ready_can = { λ o r d is. is.0 };
+
     fn apply(
         &mut self,
         alloc: Global,
         random: &mut R,
         disk: &mut D,
-        command: Command,
+        command: &Command,
     ) -> Result<Reply, ApplyFault> {
-        Owner::apply(self, alloc, disk, random, &command, &mut Steps::new())
+        Owner::apply(self, alloc, disk, random, command, &mut Steps::new())
+    }
+
+    fn replacing(&self, alloc: Global, holder: HolderId) -> Mem<List<Command>> {
+        self.numbers_are_left();
+        commands_for(alloc, self.shape(), self.names(), self.grants(), holder)
     }
 }

@@ -1,21 +1,31 @@
 -- What `upgrade` answers, prints and leaves: on every disk, and on one that shows a journal. This project's own, docs/PROGRAM.md, "The
 -- program".
-use Rattle.std.specs.Prelude.{◌≡◌, ◌<◌, ◌⊎◌, ℕ, ◌*◌, Bool, true, false, List, [], ◌++◌, length, Option, Some, None, Ok, is_some}
+use Rattle.std.specs.Prelude.{◌≡◌, ◌≢◌, ◌<◌, ◌⊎◌, ℕ, ◌*◌, Bool, true, false, List, [], ◌++◌, length, Option, Some, None, Result, Ok, Err}
+use Rattle.std.specs.Prelude.{IsTrue, is_some}
 use Rattle.cry_base.specs.declared.commands.Refusal.TheVariants.{Full}
 use Rattle.cry_base.specs.declared.commands.Reply.{Reply}
 use Rattle.cry_base.specs.declared.commands.Reply.TheVariants as replies
 use Rattle.cry_io.specs.Told.{WhereTold, WhereBothTold}
+use Rattle.cry_io.specs.declared.disk.Disk as disk
+use Rattle.cry_io.specs.declared.streams.Sink as sink
 use Rattle.cry_io.specs.declared.streams.Source as source
 use Rattle.journal_bytes.specs.Journals.{HoldsBetween, ShowsJournal}
 use Rattle.journal_bytes.specs.Upgrading.{upgrade_answer, upgrade_draws, upgraded_then}
 use Rattle.public_fold.specs.Journal.{Journal, keys_of}
 use Rattle.script_text.specs.Printing.{spell_reply}
+use Rattle.store_owner.specs.Acting.{Acts}
+use Rattle.store_owner.specs.Applying.{IsKeptBy}
+use Rattle.store_owner.specs.Deeds.Deed.{Upgrading}
 use Rattle.store_owner.specs.Drawing.{AreKeys}
+use Rattle.store_owner.specs.Owned.{OwnerView}
+use Rattle.store_owner.specs.declared.apply_fault.ApplyFault.{ApplyFault}
 use Rattle.cli_base.specs.Input.{IsUnjudgedOwner, ReadsOwner, TakesLines, owner_answer}
 use Rattle.cli_base.specs.Outside.{PrintsAll, PrintsFront}
+use Rattle.cli_base.specs.World.{Senses, World}
 use Rattle.cli_base.specs.declared.status.Status.{Status}
 use Rattle.cli_base.specs.declared.status.Status.TheVariants as statuses
-use Rattle.cli_sessions.specs.Sessions.{DrawsNext, IsUnopened, LeavesAt, Seen, version_limits}
+use Rattle.cli_sessions.specs.Opening.{HasOpened, LeavesUnopened}
+use Rattle.cli_sessions.specs.Sessions.{DrawsNext, IsUnopened, LeavesAt, Seen, apply_status, version_limits}
 use Rattle.cli_sessions.specs.Stopping.{KeepsUpTo}
 
 -- ---- on every disk
@@ -100,6 +110,37 @@ abbrev pub PrintsReply : Status → Reply → List ℕ → List ℕ → Type 0
 PrintsReply statuses.Done reply before after = PrintsAll (spell_reply reply) before after
 PrintsReply statuses.WriteFault reply before after = PrintsFront (spell_reply reply) before after
 PrintsReply _ reply before after = after ≡ before
+
+-- ---- by the owner of a store that was opened
+
+-- how the program ends at the owner's answer: at a reply, as the printing of it does
+abbrev pub TellsAnswer : Result Reply ApplyFault → Status → Option (List ℕ) → Option (List ℕ) → Type 0
+TellsAnswer (Ok reply) status written_before written_after =
+    IsTrue (is_told status) × WhereBothTold written_before written_after (PrintsReply status reply)
+TellsAnswer (Err fault) status written_before written_after = status ≡ apply_status fault
+
+-- The owner was asked to upgrade the store: what was answered, what that did, and how the program ends at it. `ok` is answered where the
+-- upgrade was carried out, and nowhere else: its batch stands, under the keys that were drawn. `refused full` is answered where the owner's
+-- own numbers say so, and nowhere else: then nothing was drawn or written.
+pub record AsksOwner {R D W : Type 0} (randoms : source.Ghosts R) (disks : disk.Ghosts D) (outs : sink.Ghosts W) (status : Status)
+    (owner : OwnerView) (random_old random_new : R) (disk_old disk_new : D) (out_old out_new : W) : Type 0 where
+  pub answer : Result Reply ApplyFault
+  pub becomes : OwnerView
+  pub acts : Acts answer Upgrading owner becomes (randoms.left random_old) (randoms.left random_new) (disks.shown disk_old)
+      (disks.shown disk_new)
+  pub kept : IsKeptBy answer owner becomes random_old random_new disk_old disk_new
+  pub told : TellsAnswer answer status (outs.written out_old) (outs.written out_new)
+
+-- the store wasn't opened: it ended before that
+pub record UpgradesUnopened {S R D W : Type 0} (see : Senses S R D W) (status : Status) (before after : World S R D W) : Type 0 where
+  pub left : LeavesUnopened HandsInAlone see status before after
+  pub early : is_after_opening status ≡ false
+
+-- the store was opened; and then its owner was asked, where it is of version 1
+pub record UpgradesOpened {S R D W : Type 0} (see : Senses S R D W) (status : Status) (before after : World S R D W) : Type 0 where
+  pub opened : HasOpened HandsInAlone statuses.AlreadyNew 1 see status before after
+  pub asks : status ≢ statuses.AlreadyNew → AsksOwner see.randoms see.disks see.outs status opened.owner before.random after.random
+      opened.opened after.disk before.out after.out
 
 -- ---- on a disk that shows a journal
 

@@ -16,7 +16,7 @@ ghost use Rattle.cli_sessions.specs.Published.{LinesPublish};
 ghost use Rattle.cli_sessions.specs.Sessions.{KeepsFrom, RanDry, seen_from, version_limits};
 ghost use Rattle.cli_sessions.specs.Stopping.{LinesKeepUpTo};
 ghost use Rattle.cli_upgrading.specs.Promises.Upgrade.{UpgradeEnds};
-ghost use Rattle.cli_upgrading.specs.Upgrading.{EndsUpgrade, HandedIn, PrintsReply, is_behind_opening};
+ghost use Rattle.cli_upgrading.specs.Upgrading.{AsksOwner, EndsUpgrade, HandedIn, PrintsReply, is_behind_opening};
 
 use crate::telling::tell_reply;
 use cli_base::input::{input_status, read_owner_line};
@@ -86,6 +86,8 @@ fn upgrade_store<R: Source, D: Disk, W: Sink>(
     ensures already { result ≡ Status.AlreadyNew
         → (owner.state.keys.version ≢ 1) × (random.new ≡ random.old) × (disk.new ≡ disk.old) × (out.new ≡ out.old) }
     ensures upgrades { result ≢ Status.AlreadyNew → owner.state.keys.version ≡ 1 }
+    ensures asks { result ≢ Status.AlreadyNew → AsksOwner R.Source D.Disk W.Sink result owner random.old random.new disk.old disk.new
+        out.old out.new }
     ensures ends { (key : List ℕ) (m : Journal) (was : Option (List ℕ)) →
         StandsAt version_limits key (opened m []) owner (D.shown disk.old) → KeepsFrom (length (image_of key m)) was (D.shown disk.old) →
         EndsUpgrade result key m

@@ -7,7 +7,8 @@ cryptree keeps shared folders in one store file, on a disk that nobody has to tr
   cryptree STORE RANDOM make        make a store in STORE, a missing or empty file, and print its owner's key
   cryptree STORE RANDOM run         apply the commands of standard input, one a line behind the owner's line, and answer each:
                                     holder, mkdir PATH, write PATH HEX, rm PATH, rename PATH NAME, move PATH FOLDER,
-                                    grant N PATH or revoke N PATH, PATH being a folder with all below it, or a file
+                                    grant N PATH or revoke N PATH, PATH being a folder with all below it, or a file, and
+                                    replace N, which gives those who share holder N's key a new one
   cryptree STORE RANDOM upgrade     make a store of version 1, which run refuses, one of version 2, in which what leaves a folder is
                                     closed at once; the owner's line is read from standard input, and readers need nothing new
   cryptree STORE RANDOM list        print what a key opens; the key's line is read from standard input: the owner's, as make

@@ -2,8 +2,8 @@
 -- source has fewer, says how many it had. Where nothing fails and memory is there it is done: the disk shows the store that the drawn
 -- bytes make, settled, and the line with its owner's key was printed. Where the output failed, the whole store stands all the same, and a
 -- front of that line was printed. The disk is handed the writes of that store, each batch as it is staged, opened and published, and
--- nothing else: where the disk failed, the first of them. Before the draw the random source is as it was; before the writing the disk;
--- before the printing the output. The input is never touched.
+-- nothing else: where the disk failed, the first of them. All of this speaks of the same drawn bytes. Before the draw the random source is
+-- as it was; before the writing the disk; before the printing the output. The input is never touched.
 use Rattle.std.specs.Prelude.{◌≡◌, ◌≢◌, ◌≤◌, ◌⊎◌, ◌↔◌, ℕ, length, IsTrue}
 use Rattle.commit_journal.specs.Holding.{GoesOn}
 use Rattle.cry_io.specs.Stops.{IsDurable}
@@ -31,15 +31,14 @@ pub record MakeEnds {S R D W : Type 0} (see : Senses S R D W) (status : Status) 
       → see.outs.faults after.out ≤ see.outs.faults before.out → (status ≡ statuses.Done) ⊎ (status ≡ statuses.OutOfMemory))
   -- what it leaves
   pub made : status ≡ statuses.Done → Makes PrintsAll (see.randoms.left before.random) (see.randoms.left after.random)
-      (see.disks.shown after.disk) (see.disks.may_leave after.disk) (see.outs.written before.out) (see.outs.written after.out)
+      (see.disks.shown before.disk) (see.disks.shown after.disk) (see.disks.may_leave after.disk)
+      (see.disks.since after.disk (see.disks.moment before.disk)) (see.outs.written before.out) (see.outs.written after.out)
   pub cut_short : status ≡ statuses.WriteFault → Makes PrintsFront (see.randoms.left before.random) (see.randoms.left after.random)
-      (see.disks.shown after.disk) (see.disks.may_leave after.disk) (see.outs.written before.out) (see.outs.written after.out)
+      (see.disks.shown before.disk) (see.disks.shown after.disk) (see.disks.may_leave after.disk)
+      (see.disks.since after.disk (see.disks.moment before.disk)) (see.outs.written before.out) (see.outs.written after.out)
   pub stays : (status ≡ statuses.Done) ⊎ (status ≡ statuses.WriteFault)
       → IsDurable (see.disks.may_leave after.disk) (see.disks.shown after.disk) × (see.disks.size_of after.disk ≡ fresh_store_len)
-  -- what the disk is handed
-  pub hands : (status ≡ statuses.Done) ⊎ (status ≡ statuses.WriteFault) → HandsFresh (Unit {0}) (see.randoms.left before.random)
-      (see.randoms.left after.random) (see.disks.shown before.disk) (see.disks.shown after.disk)
-      (see.disks.since after.disk (see.disks.moment before.disk))
+  -- what the disk is handed where it failed
   pub hands_some : status ≡ statuses.DiskFault → HandsFresh ⊥ (see.randoms.left before.random)
       (see.randoms.left after.random) (see.disks.shown before.disk) (see.disks.shown after.disk)
       (see.disks.since after.disk (see.disks.moment before.disk))

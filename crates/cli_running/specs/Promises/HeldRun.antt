@@ -50,7 +50,7 @@ pub record EndsAtFirst {S R D W : Type 0} (see : Senses S R D W) (status : Statu
   pub key_line : status ≡ statuses.BadScript 1 → WhereTold (see.inputs.left before.input) (λ typed. key_in_lines (lines_in typed) ≡ None)
   pub takes : WhereBothTold (see.inputs.left before.input) (see.inputs.left after.input) (TakesTo (line_ended status 0))
   pub read_whole_lines : status ≡ statuses.ReadFault
-      → WhereBothTold (see.inputs.left before.input) (see.inputs.left after.input) (ReadsWholeTyped [])
+      → WhereBothTold (see.inputs.left before.input) (see.inputs.left after.input) (ReadsWholeTyped [] 0)
   pub rest_kept : after ≡ record before { input = after.input }
 
 -- The first line hands in a key, and the test of the head failed: the log begins otherwise, or can't be read.

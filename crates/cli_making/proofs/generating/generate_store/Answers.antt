@@ -12,7 +12,7 @@ pub fill-requires-clause-is_script : goal.fill-requires-clause-is_script
 fill-requires-clause-is_script g c = (c.args.seed, c.args.count, c.requires, c.in-Ok.ensures)
 
 pub fill-requires-clause-open : goal.fill-requires-clause-open
-fill-requires-clause-open g c = c.in-Ok-make.ensures.made.1.journal.is_open
+fill-requires-clause-open g c = c.in-Ok-make.ensures.made.owner.journal.is_open
 
 pub returns-in-Ok-make-clause-generates : goal.returns-in-Ok-make-clause-generates
 returns-in-Ok-make-clause-generates g c = λ blank.
@@ -23,13 +23,12 @@ returns-in-Ok-make-clause-generates g c = λ blank.
     c.in-Ok-make.ensures.source_told c.fill.ensures.disk_told store
     (record {
       told = c.in-Ok-make.ensures.disk_told;
-      shows = store.3;
+      shows = store.fresh;
       durable = c.in-Ok-make.ensures.durable;
       size = c.in-Ok-make.ensures.size;
       later = c.in-Ok-make.ensures.later;
       time = c.in-Ok-make.ensures.time;
     })
-    c.in-Ok-make.ensures.hands
     c.fill.ensures.later c.fill.ensures.time
     (λ key m begins. c.fill.ensures.fills c.args.seed c.args.count key m c.requires c.in-Ok.ensures begins) c.fill.ensures.published c.fill.ensures.announced)
 
@@ -52,7 +51,7 @@ returns-in-Ok-make-clause-calm g c = λ other. inr (c.fill.ensures.calm other)
 pub returns-in-Ok-make-clause-short : goal.returns-in-Ok-make-clause-short
 returns-in-Ok-make-clause-short g c = λ left need is.
     dry_behind version_limits c.in-Ok-make.owner left need (g.R.Source.left c.args.random.now) (g.R.Source.left c.make.new.random) (g.R.Source.left c.fill.new.random)
-    (g.D.Disk.shown c.make.new.disk) c.in-Ok-make.ensures.made (c.fill.ensures.short left need is)
+    (g.D.Disk.shown c.args.disk.now) (g.D.Disk.shown c.make.new.disk) (g.D.Disk.since c.make.new.disk (g.D.Disk.moment c.args.disk.now)) c.in-Ok-make.ensures.made (c.fill.ensures.short left need is)
 
 pub returns-in-Err-clause-generates : goal.returns-in-Err-clause-generates
 returns-in-Err-clause-generates g c = λ blank.

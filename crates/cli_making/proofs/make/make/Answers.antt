@@ -11,28 +11,30 @@ use Rattle.cli_making.proofs.make.make.Goals as goal
 
 pub returns-in-Ok-make-clause-short_only : goal.returns-in-Ok-make-clause-short_only
 returns-in-Ok-make-clause-short_only g c = λ blank.
+    let D = g.D.Disk in
     let left = g.R.Source.left in
-    never_fewer version_limits c.in-Ok-make.owner (left c.args.random.now) (left c.make.new.random) (g.D.Disk.shown c.make.new.disk) c.tell.result
-    c.in-Ok-make.ensures.source_told c.in-Ok-make.ensures.made
+    never_fewer version_limits c.in-Ok-make.owner (left c.args.random.now) (left c.make.new.random) (D.shown c.args.disk.now) (D.shown c.make.new.disk)
+    (D.since c.make.new.disk (D.moment c.args.disk.now)) c.tell.result c.in-Ok-make.ensures.source_told c.in-Ok-make.ensures.made
 
 pub returns-in-Ok-make-clause-made : goal.returns-in-Ok-make-clause-made
 returns-in-Ok-make-clause-made g c = λ done.
+    let D = g.D.Disk in
     let left = g.R.Source.left in
     let written = g.W.Sink.written in
-    makes PrintsAll version_limits c.in-Ok-make.owner (left c.args.random.now) (left c.make.new.random) (g.D.Disk.shown c.make.new.disk) (g.D.Disk.may_leave c.make.new.disk)
+    makes PrintsAll version_limits c.in-Ok-make.owner (left c.args.random.now) (left c.make.new.random) (D.shown c.args.disk.now) (D.shown c.make.new.disk)
+    (D.may_leave c.make.new.disk) (D.since c.make.new.disk (D.moment c.args.disk.now))
     (written c.args.out.now) (written c.tell.new.out) c.in-Ok-make.ensures.made c.in-Ok-make.ensures.durable
     (subst (λ (key : List ℕ). WhereBothTold (written c.args.out.now) (written c.tell.new.out) (PrintsAll (owner_line key))) c.key.ensures (c.tell.ensures.printed done))
 
 pub returns-in-Ok-make-clause-cut_short : goal.returns-in-Ok-make-clause-cut_short
 returns-in-Ok-make-clause-cut_short g c = λ failed.
+    let D = g.D.Disk in
     let left = g.R.Source.left in
     let written = g.W.Sink.written in
-    makes PrintsFront version_limits c.in-Ok-make.owner (left c.args.random.now) (left c.make.new.random) (g.D.Disk.shown c.make.new.disk) (g.D.Disk.may_leave c.make.new.disk)
+    makes PrintsFront version_limits c.in-Ok-make.owner (left c.args.random.now) (left c.make.new.random) (D.shown c.args.disk.now) (D.shown c.make.new.disk)
+    (D.may_leave c.make.new.disk) (D.since c.make.new.disk (D.moment c.args.disk.now))
     (written c.args.out.now) (written c.tell.new.out) c.in-Ok-make.ensures.made c.in-Ok-make.ensures.durable
     (subst (λ (key : List ℕ). WhereBothTold (written c.args.out.now) (written c.tell.new.out) (PrintsFront (owner_line key))) c.key.ensures (c.tell.ensures.cut_short failed))
-
-pub returns-in-Ok-make-clause-hands : goal.returns-in-Ok-make-clause-hands
-returns-in-Ok-make-clause-hands g c = λ told. c.in-Ok-make.ensures.hands
 
 pub returns-in-Ok-make-clause-hands_some : goal.returns-in-Ok-make-clause-hands_some
 returns-in-Ok-make-clause-hands_some g c = λ is. absurd (told_not_unwritten c.tell.result c.tell.ensures.answers is)

@@ -1,17 +1,21 @@
-use Rattle.std.proofs.Common.{◌≡◌, ◌≤◌, IsTrue, false, List, [], length, Ok, Err, sym, ap, subst, ◌∙◌}
+use Rattle.std.proofs.Common.{◌≡◌, ◌≤◌, ℕ, IsTrue, false, List, [], length, Ok, Err, refl, sym, ap, subst, ◌∙◌}
 use Rattle.cry_base.specs.Requests.{Request}
 use Rattle.cry_io.specs.Told.{WhereBothTold}
 use Rattle.cli_base.specs.Lines.{bytes_ahead, lines_ahead}
 use Rattle.cli_sessions.specs.Sessions.{Ends, version_limits}
 use Rattle.cli_running.specs.Running.{RanLines, TakesBehindFirst, is_before_opening, is_run_answer, line_ended}
+use Rattle.cli_sessions.specs.Acting.{OwnerRan, place_of}
 use Rattle.cli_sessions.specs.Opening.{Judges}
+use Rattle.cli_sessions.proofs.ActedLines.{owner_ran}
+use Rattle.cli_sessions.specs.OwnerSteps.{StandsIn}
+use Rattle.cli_sessions.specs.Script.{answered_in, lines_in}
 use Rattle.cli_sessions.specs.Stopping.{LinesKeepUpTo}
-use Rattle.cli_running.proofs.FaultedRuns.{after_no_disk_fault, faulted_answers, faulted_behind, faulted_judges, faulted_reads, faulted_undone, faulted_writes}
+use Rattle.cli_running.proofs.FaultedRuns.{after_no_disk_fault, faulted_answers, faulted_behind, faulted_judges, faulted_needs_none, faulted_reads, faulted_undone, faulted_writes}
 use Rattle.cli_running.proofs.LinesRun.{none_of_old, none_taken, ran_lines, ran_taken}
 use Rattle.cli_sessions.proofs.PublishedLines.{publish_lines}
 use Rattle.cli_running.proofs.ReadFaults.{cut_lines}
-use Rattle.cli_sessions.proofs.RunLemmas.{Fails, Step, calm_but, calm_is, disk_fault, ends_none, ends_so, goes_on, random_fault, random_short, time_goes_on}
-use Rattle.cli_sessions.proofs.ScriptLemmas.{answered_of, nothing_ran}
+use Rattle.cli_sessions.proofs.RunLemmas.{Fails, Step, leaves, moments, scene, calm_but, calm_is, disk_fault, ends_none, ends_so, goes_on, random_fault, random_short, time_goes_on}
+use Rattle.cli_sessions.proofs.ScriptLemmas.{nothing_ran}
 use Rattle.cli_sessions.specs.declared.script.ScriptFault.TheVariants.{ReadFault}
 use Rattle.store_owner.specs.Owned.{OwnerView}
 use Rattle.cli_running.proofs.run.apply_lines.Goals as goal
@@ -150,15 +154,20 @@ returns-clause-disk_fault g c = λ is.
 
 pub returns-in-Ok-clause-lines : goal.returns-in-Ok-clause-lines
 returns-in-Ok-clause-lines g c =
-    let asked : List Request = answered_of (Step g.row.R.Denot g.row.D.Denot g.R.Source.left g.R.Source.faults g.D.Disk.shown g.D.Disk.faults g.D.Disk.may_leave g.D.Disk.moment g.D.Disk.since)
+    let asked : List Request = answered_in (Step g.row.R.Denot g.row.D.Denot g.R.Source.left g.R.Source.faults g.D.Disk.shown g.D.Disk.faults g.D.Disk.may_leave g.D.Disk.moment g.D.Disk.since)
     (Fails g.row.R.Denot g.row.D.Denot g.R.Source.left g.R.Source.faults g.D.Disk.shown g.D.Disk.faults g.D.Disk.may_leave g.D.Disk.moment g.D.Disk.since)
-    (Ok tt) (c.args.owner, c.args.random.now, c.args.disk.now) (c.run_lines-ran.new.owner, c.run_lines-ran.new.random, c.run_lines-ran.new.disk)
-    c.args.reader c.run_lines-ran.new.reader (g.S.Source.left c.args.input.now) (g.S.Source.left c.run_lines-ran.new.input)
-    (g.W.Sink.written c.args.out.now) (g.W.Sink.written c.run_lines-ran.new.out) c.in-Ok.ensures.ran in (
+    (λ (x : OwnerView × g.row.R.Denot × g.row.D.Denot). StandsIn x.0) (Ok tt) (c.args.owner, c.args.random.now, c.args.disk.now) (c.run_lines-ran.new.owner, c.run_lines-ran.new.random, c.run_lines-ran.new.disk)
+    c.in-Ok.ensures.ran.went in
+    let answered : ℕ = lines_in (Step g.row.R.Denot g.row.D.Denot g.R.Source.left g.R.Source.faults g.D.Disk.shown g.D.Disk.faults g.D.Disk.may_leave g.D.Disk.moment g.D.Disk.since)
+    (Fails g.row.R.Denot g.row.D.Denot g.R.Source.left g.R.Source.faults g.D.Disk.shown g.D.Disk.faults g.D.Disk.may_leave g.D.Disk.moment g.D.Disk.since)
+    (λ (x : OwnerView × g.row.R.Denot × g.row.D.Denot). StandsIn x.0) (Ok tt) (c.args.owner, c.args.random.now, c.args.disk.now) (c.run_lines-ran.new.owner, c.run_lines-ran.new.random, c.run_lines-ran.new.disk)
+    c.in-Ok.ensures.ran.went in (
       asked,
+      answered,
       ran_lines (OwnerView × g.row.R.Denot × g.row.D.Denot)
           (Step g.row.R.Denot g.row.D.Denot g.R.Source.left g.R.Source.faults g.D.Disk.shown g.D.Disk.faults g.D.Disk.may_leave g.D.Disk.moment g.D.Disk.since)
           (Fails g.row.R.Denot g.row.D.Denot g.R.Source.left g.R.Source.faults g.D.Disk.shown g.D.Disk.faults g.D.Disk.may_leave g.D.Disk.moment g.D.Disk.since)
+          (λ (x : OwnerView × g.row.R.Denot × g.row.D.Denot). StandsIn x.0)
           (c.args.owner, c.args.random.now, c.args.disk.now) (c.run_lines-ran.new.owner, c.run_lines-ran.new.random, c.run_lines-ran.new.disk)
           c.args.reader c.run_lines-ran.new.reader (g.S.Source.left c.args.input.now) (g.S.Source.left c.run_lines-ran.new.input)
           (g.W.Sink.written c.args.out.now) (g.W.Sink.written c.run_lines-ran.new.out)
@@ -166,6 +175,7 @@ returns-in-Ok-clause-lines g c =
       λ few. ran_taken (OwnerView × g.row.R.Denot × g.row.D.Denot)
           (Step g.row.R.Denot g.row.D.Denot g.R.Source.left g.R.Source.faults g.D.Disk.shown g.D.Disk.faults g.D.Disk.may_leave g.D.Disk.moment g.D.Disk.since)
           (Fails g.row.R.Denot g.row.D.Denot g.R.Source.left g.R.Source.faults g.D.Disk.shown g.D.Disk.faults g.D.Disk.may_leave g.D.Disk.moment g.D.Disk.since)
+          (λ (x : OwnerView × g.row.R.Denot × g.row.D.Denot). StandsIn x.0)
           (c.args.owner, c.args.random.now, c.args.disk.now) (c.run_lines-ran.new.owner, c.run_lines-ran.new.random, c.run_lines-ran.new.disk)
           c.args.reader c.run_lines-ran.new.reader (g.S.Source.left c.args.input.now) (g.S.Source.left c.run_lines-ran.new.input)
           (g.W.Sink.written c.args.out.now) (g.W.Sink.written c.run_lines-ran.new.out)
@@ -182,34 +192,53 @@ returns-in-Ok-clause-lines g c =
           c.args.reader c.run_lines-ran.new.reader (g.S.Source.left c.args.input.now) (g.S.Source.left c.run_lines-ran.new.input)
           (g.W.Sink.written c.args.out.now) (g.W.Sink.written c.run_lines-ran.new.out)
           (λ d s left at. g.met.D.Disk.only_now d s left at) (Ok tt) c.in-Ok.ensures.ran calm c.requires.second c.in-Ok.ensures.input_told x was key m first_shown stands c.requires.durable kept),
+      (λ other. owner_ran (OwnerView × g.row.R.Denot × g.row.D.Denot)
+          (scene g.row.R.Denot g.row.D.Denot g.R.Source.left g.R.Source.faults g.D.Disk.shown g.D.Disk.faults g.D.Disk.may_leave g.D.Disk.moment g.D.Disk.since)
+          (leaves g.row.R.Denot g.row.D.Denot g.R.Source.left g.R.Source.faults g.D.Disk.shown g.D.Disk.faults g.D.Disk.may_leave g.D.Disk.moment g.D.Disk.since)
+          (moments g.row.R.Denot g.row.D.Denot g.R.Source.left g.R.Source.faults g.D.Disk.shown g.D.Disk.faults g.D.Disk.may_leave g.D.Disk.moment g.D.Disk.since)
+          (Step g.row.R.Denot g.row.D.Denot g.R.Source.left g.R.Source.faults g.D.Disk.shown g.D.Disk.faults g.D.Disk.may_leave g.D.Disk.moment g.D.Disk.since)
+          (λ x r reply y step. step.0)
+          (Fails g.row.R.Denot g.row.D.Denot g.R.Source.left g.R.Source.faults g.D.Disk.shown g.D.Disk.faults g.D.Disk.may_leave g.D.Disk.moment g.D.Disk.since)
+          (λ x r fault y failed. failed.0)
+          (λ (x : OwnerView × g.row.R.Denot × g.row.D.Denot). StandsIn x.0) (λ x n commands so. so)
+          (c.args.owner, c.args.random.now, c.args.disk.now) (c.run_lines-ran.new.owner, c.run_lines-ran.new.random, c.run_lines-ran.new.disk)
+          c.args.reader c.run_lines-ran.new.reader (g.S.Source.left c.args.input.now) (g.S.Source.left c.run_lines-ran.new.input)
+          (g.W.Sink.written c.args.out.now) (g.W.Sink.written c.run_lines-ran.new.out) c.in-Ok.ensures.input_told (Ok tt) c.in-Ok.ensures.ran),
     )
 
 pub returns-clause-lines : goal.returns-clause-lines
 returns-clause-lines g c =
-    let asked : List Request = answered_of (Step g.row.R.Denot g.row.D.Denot g.R.Source.left g.R.Source.faults g.D.Disk.shown g.D.Disk.faults g.D.Disk.may_leave g.D.Disk.moment g.D.Disk.since)
+    let asked : List Request = answered_in (Step g.row.R.Denot g.row.D.Denot g.R.Source.left g.R.Source.faults g.D.Disk.shown g.D.Disk.faults g.D.Disk.may_leave g.D.Disk.moment g.D.Disk.since)
     (Fails g.row.R.Denot g.row.D.Denot g.R.Source.left g.R.Source.faults g.D.Disk.shown g.D.Disk.faults g.D.Disk.may_leave g.D.Disk.moment g.D.Disk.since)
-    (Err c.in-Err.fault) (c.args.owner, c.args.random.now, c.args.disk.now) (c.run_lines-ran.new.owner, c.run_lines-ran.new.random, c.run_lines-ran.new.disk)
-    c.args.reader c.run_lines-ran.new.reader (g.S.Source.left c.args.input.now) (g.S.Source.left c.run_lines-ran.new.input)
-    (g.W.Sink.written c.args.out.now) (g.W.Sink.written c.run_lines-ran.new.out) c.in-Err.ensures.ran in (
+    (λ (x : OwnerView × g.row.R.Denot × g.row.D.Denot). StandsIn x.0) (Err c.in-Err.fault) (c.args.owner, c.args.random.now, c.args.disk.now) (c.run_lines-ran.new.owner, c.run_lines-ran.new.random, c.run_lines-ran.new.disk)
+    c.in-Err.ensures.ran.went in
+    let answered : ℕ = lines_in (Step g.row.R.Denot g.row.D.Denot g.R.Source.left g.R.Source.faults g.D.Disk.shown g.D.Disk.faults g.D.Disk.may_leave g.D.Disk.moment g.D.Disk.since)
+    (Fails g.row.R.Denot g.row.D.Denot g.R.Source.left g.R.Source.faults g.D.Disk.shown g.D.Disk.faults g.D.Disk.may_leave g.D.Disk.moment g.D.Disk.since)
+    (λ (x : OwnerView × g.row.R.Denot × g.row.D.Denot). StandsIn x.0) (Err c.in-Err.fault) (c.args.owner, c.args.random.now, c.args.disk.now) (c.run_lines-ran.new.owner, c.run_lines-ran.new.random, c.run_lines-ran.new.disk)
+    c.in-Err.ensures.ran.went in (
       asked,
-      subst (λ status. RanLines status asked (lines_ahead c.args.reader) (g.S.Source.left c.args.input.now) (g.W.Sink.written c.args.out.now) (g.W.Sink.written c.run_lines-ran.new.out)) (sym c.script_status.ensures)
+      answered,
+      subst (λ status. RanLines status asked answered (lines_ahead c.args.reader) (g.S.Source.left c.args.input.now) (g.W.Sink.written c.args.out.now) (g.W.Sink.written c.run_lines-ran.new.out)) (sym c.script_status.ensures)
           (ran_lines (OwnerView × g.row.R.Denot × g.row.D.Denot)
           (Step g.row.R.Denot g.row.D.Denot g.R.Source.left g.R.Source.faults g.D.Disk.shown g.D.Disk.faults g.D.Disk.may_leave g.D.Disk.moment g.D.Disk.since)
           (Fails g.row.R.Denot g.row.D.Denot g.R.Source.left g.R.Source.faults g.D.Disk.shown g.D.Disk.faults g.D.Disk.may_leave g.D.Disk.moment g.D.Disk.since)
+          (λ (x : OwnerView × g.row.R.Denot × g.row.D.Denot). StandsIn x.0)
           (c.args.owner, c.args.random.now, c.args.disk.now) (c.run_lines-ran.new.owner, c.run_lines-ran.new.random, c.run_lines-ran.new.disk)
           c.args.reader c.run_lines-ran.new.reader (g.S.Source.left c.args.input.now) (g.S.Source.left c.run_lines-ran.new.input)
           (g.W.Sink.written c.args.out.now) (g.W.Sink.written c.run_lines-ran.new.out)
           c.in-Err.ensures.input_told (Err c.in-Err.fault) c.in-Err.ensures.ran c.requires.second),
-      λ few. subst (λ status. WhereBothTold (g.S.Source.left c.args.input.now) (g.S.Source.left c.run_lines-ran.new.input) (TakesBehindFirst (bytes_ahead c.args.reader) (line_ended status (length asked)))) (sym c.script_status.ensures)
+      λ few. subst (λ status. WhereBothTold (g.S.Source.left c.args.input.now) (g.S.Source.left c.run_lines-ran.new.input) (TakesBehindFirst (bytes_ahead c.args.reader) (line_ended status answered))) (sym c.script_status.ensures)
           (ran_taken (OwnerView × g.row.R.Denot × g.row.D.Denot)
           (Step g.row.R.Denot g.row.D.Denot g.R.Source.left g.R.Source.faults g.D.Disk.shown g.D.Disk.faults g.D.Disk.may_leave g.D.Disk.moment g.D.Disk.since)
           (Fails g.row.R.Denot g.row.D.Denot g.R.Source.left g.R.Source.faults g.D.Disk.shown g.D.Disk.faults g.D.Disk.may_leave g.D.Disk.moment g.D.Disk.since)
+          (λ (x : OwnerView × g.row.R.Denot × g.row.D.Denot). StandsIn x.0)
           (c.args.owner, c.args.random.now, c.args.disk.now) (c.run_lines-ran.new.owner, c.run_lines-ran.new.random, c.run_lines-ran.new.disk)
           c.args.reader c.run_lines-ran.new.reader (g.S.Source.left c.args.input.now) (g.S.Source.left c.run_lines-ran.new.input)
           (g.W.Sink.written c.args.out.now) (g.W.Sink.written c.run_lines-ran.new.out)
           c.in-Err.ensures.input_told (Err c.in-Err.fault) c.in-Err.ensures.ran c.requires.second),
       (λ is.
           cut_lines (Step g.row.R.Denot g.row.D.Denot g.R.Source.left g.R.Source.faults g.D.Disk.shown g.D.Disk.faults g.D.Disk.may_leave g.D.Disk.moment g.D.Disk.since) (Fails g.row.R.Denot g.row.D.Denot g.R.Source.left g.R.Source.faults g.D.Disk.shown g.D.Disk.faults g.D.Disk.may_leave g.D.Disk.moment g.D.Disk.since)
+          (λ (x : OwnerView × g.row.R.Denot × g.row.D.Denot). StandsIn x.0)
           (c.args.owner, c.args.random.now, c.args.disk.now) (c.run_lines-ran.new.owner, c.run_lines-ran.new.random, c.run_lines-ran.new.disk)
           c.args.reader c.run_lines-ran.new.reader (g.S.Source.left c.args.input.now) (g.S.Source.left c.run_lines-ran.new.input)
           (g.W.Sink.written c.args.out.now) (g.W.Sink.written c.run_lines-ran.new.out)
@@ -234,6 +263,22 @@ returns-clause-lines g c =
           c.args.reader c.run_lines-ran.new.reader (g.S.Source.left c.args.input.now) (g.S.Source.left c.run_lines-ran.new.input)
           (g.W.Sink.written c.args.out.now) (g.W.Sink.written c.run_lines-ran.new.out)
           (λ d s left at. g.met.D.Disk.only_now d s left at) (Err c.in-Err.fault) c.in-Err.ensures.ran calm c.requires.second c.in-Err.ensures.input_told x was key m first_shown stands c.requires.durable kept)),
+      (λ other.
+          subst (λ status. OwnerRan status asked answered (lines_ahead c.args.reader) (g.S.Source.left c.args.input.now)
+          (place_of c.args.owner (g.R.Source.left c.args.random.now) (g.D.Disk.shown c.args.disk.now)) (g.R.Source.left c.run_lines-ran.new.random) (g.D.Disk.shown c.run_lines-ran.new.disk)
+          (g.W.Sink.written c.args.out.now) (g.W.Sink.written c.run_lines-ran.new.out)) (sym c.script_status.ensures)
+          (owner_ran (OwnerView × g.row.R.Denot × g.row.D.Denot)
+          (scene g.row.R.Denot g.row.D.Denot g.R.Source.left g.R.Source.faults g.D.Disk.shown g.D.Disk.faults g.D.Disk.may_leave g.D.Disk.moment g.D.Disk.since)
+          (leaves g.row.R.Denot g.row.D.Denot g.R.Source.left g.R.Source.faults g.D.Disk.shown g.D.Disk.faults g.D.Disk.may_leave g.D.Disk.moment g.D.Disk.since)
+          (moments g.row.R.Denot g.row.D.Denot g.R.Source.left g.R.Source.faults g.D.Disk.shown g.D.Disk.faults g.D.Disk.may_leave g.D.Disk.moment g.D.Disk.since)
+          (Step g.row.R.Denot g.row.D.Denot g.R.Source.left g.R.Source.faults g.D.Disk.shown g.D.Disk.faults g.D.Disk.may_leave g.D.Disk.moment g.D.Disk.since)
+          (λ x r reply y step. step.0)
+          (Fails g.row.R.Denot g.row.D.Denot g.R.Source.left g.R.Source.faults g.D.Disk.shown g.D.Disk.faults g.D.Disk.may_leave g.D.Disk.moment g.D.Disk.since)
+          (λ x r fault y failed. failed.0)
+          (λ (x : OwnerView × g.row.R.Denot × g.row.D.Denot). StandsIn x.0) (λ x n commands so. so)
+          (c.args.owner, c.args.random.now, c.args.disk.now) (c.run_lines-ran.new.owner, c.run_lines-ran.new.random, c.run_lines-ran.new.disk)
+          c.args.reader c.run_lines-ran.new.reader (g.S.Source.left c.args.input.now) (g.S.Source.left c.run_lines-ran.new.input)
+          (g.W.Sink.written c.args.out.now) (g.W.Sink.written c.run_lines-ran.new.out) c.in-Err.ensures.input_told (Err c.in-Err.fault) c.in-Err.ensures.ran)),
     )
 
 pub returns-clause-short : goal.returns-clause-short
@@ -251,13 +296,16 @@ pub returns-clause-none_of_bytes : goal.returns-clause-none_of_bytes
 returns-clause-none_of_bytes g c = λ verdict none.
     subst (λ status. Judges status verdict) (sym c.script_status.ensures) (faulted_judges c.in-Err.fault verdict none)
 
+pub returns-clause-needs : goal.returns-clause-needs
+returns-clause-needs g c = λ is. faulted_needs_none c.in-Err.fault (sym c.script_status.ensures ∙ is)
+
 pub returns-clause-stays : goal.returns-clause-stays
 returns-clause-stays g c = λ after. returns-clause-calm g c (after_no_disk_fault c.script_status.result after)
 
 pub returns-clause-not_first : goal.returns-clause-not_first
 returns-clause-not_first g c =
     subst (λ status. is_before_opening status ≡ false) (sym c.script_status.ensures)
-    (faulted_behind c.in-Err.fault c.args.reader.given (length c.in-Err.ensures.ran.asked) c.requires.second c.in-Err.ensures.ran.number)
+    (faulted_behind c.in-Err.fault c.args.reader.given (length c.in-Err.ensures.ran.went.tasks) c.requires.second c.in-Err.ensures.ran.number)
 
 pub returns-clause-read_to_end : goal.returns-clause-read_to_end
 returns-clause-read_to_end g c = λ done. faulted_undone c.in-Err.fault (sym c.script_status.ensures ∙ done)
@@ -300,13 +348,15 @@ returns-then-version-eq-OLD_VERSION-clause-published g c = λ key m stands.
     (λ d s left at. g.met.D.Disk.only_now d s left at) (λ d t s left early is leaves. g.met.D.Disk.counts_now d t s left early is leaves)
     (λ d s is. g.met.D.Disk.shown_may_be_left d s is) key m stands c.requires.durable (Err ReadFault)
     (nothing_ran (Step g.row.R.Denot g.row.D.Denot g.R.Source.left g.R.Source.faults g.D.Disk.shown g.D.Disk.faults g.D.Disk.may_leave g.D.Disk.moment g.D.Disk.since)
-    (Fails g.row.R.Denot g.row.D.Denot g.R.Source.left g.R.Source.faults g.D.Disk.shown g.D.Disk.faults g.D.Disk.may_leave g.D.Disk.moment g.D.Disk.since) here c.args.reader typed written)
+    (Fails g.row.R.Denot g.row.D.Denot g.R.Source.left g.R.Source.faults g.D.Disk.shown g.D.Disk.faults g.D.Disk.may_leave g.D.Disk.moment g.D.Disk.since)
+    (λ (x : OwnerView × g.row.R.Denot × g.row.D.Denot). StandsIn x.0) here c.args.reader typed written)
 
 pub returns-then-version-eq-OLD_VERSION-clause-lines : goal.returns-then-version-eq-OLD_VERSION-clause-lines
 returns-then-version-eq-OLD_VERSION-clause-lines g c =
     let typed = g.S.Source.left c.args.input.now in
     let written = g.W.Sink.written c.args.out.now in (
       [],
+      0,
       none_of_old (lines_ahead c.args.reader) typed written,
       (λ few. none_taken c.args.reader typed few),
       (λ is. absurd cc),
@@ -314,4 +364,5 @@ returns-then-version-eq-OLD_VERSION-clause-lines g c =
           ends_none g.row.R.Denot g.row.D.Denot g.R.Source.left g.R.Source.faults g.D.Disk.shown g.D.Disk.faults g.D.Disk.may_leave g.D.Disk.moment g.D.Disk.since
           (λ d s left at. g.met.D.Disk.only_now d s left at) (c.args.owner, c.args.random.now, c.args.disk.now) c.args.reader typed written
           x was key m first_shown stands c.requires.durable kept),
+      (λ other. absurd (other refl)),
     )

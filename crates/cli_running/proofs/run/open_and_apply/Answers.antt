@@ -11,7 +11,9 @@ use Rattle.journal_bytes.specs.Journals.{StandsForJournal}
 use Rattle.cli_base.specs.Lines.{lines_ahead}
 use Rattle.cli_sessions.specs.Sessions.{Ends, KeepsFrom, Seen, version_limits}
 use Rattle.cli_running.specs.Running.{is_after_opening, is_before_opening, is_run_answer, RanLines, TakesTo, line_ended, lines_behind, lines_in, lines_typed}
+use Rattle.cli_sessions.specs.Acting.{place_of}
 use Rattle.cli_sessions.specs.Opening.{Judges, open_status}
+use Rattle.cli_sessions.proofs.ActedLines.{owner_ran_in}
 use Rattle.cli_running.proofs.LinesRun.{bad_is_never_done, key_taken, lines_as_typed, unopened_lines, unopened_taken}
 use Rattle.cli_sessions.proofs.OpenedPublishing.{opened_publishes}
 use Rattle.cli_running.proofs.ReadFaults.{cut_behind, unopened_reads_none}
@@ -25,8 +27,8 @@ use Rattle.cli_base.specs.World.{world_of}
 use Rattle.cli_sessions.proofs.Versions.{KeepsVersion, owners_version}
 use Rattle.cli_running.specs.Running.{HandsInFirst}
 use Rattle.cli_running.proofs.RunVersions.{second_version, tells_version, unopened_needs_none, unopened_tells_none}
-use Rattle.cli_running.proofs.RunOpening.{handed_lines, not_first, unopened_answers, unopened_isnt_behind, unopened_isnt_done, unopened_isnt_first, key_is_given, not_before, same_key, unopened_draws_none, unopened_ends, unopened_is_no_line}
-use Rattle.cli_sessions.proofs.StoreOpening.{opened_has_no_verdict, opened_stands, seen_unopened, unopened_is_judged}
+use Rattle.cli_running.proofs.RunOpening.{handed_lines, not_first, unopened_answers, unopened_is_early, unopened_isnt_behind, unopened_isnt_done, unopened_isnt_first, key_is_given, not_before, same_key, unopened_draws_none, unopened_ends, unopened_is_no_line}
+use Rattle.cli_sessions.proofs.StoreOpening.{opened_has_no_verdict, opened_stands, seen_unopened, unopened_is_judged, was_opened}
 use Rattle.cli_base.proofs.InputLemmas.{fresh_reader}
 use Rattle.cli_sessions.proofs.Takings.{taken_few}
 use Rattle.log_visits.specs.Asking.{verdict}
@@ -37,8 +39,8 @@ pub returns-in-Err-clause-runs : goal.returns-in-Err-clause-runs
 returns-in-Err-clause-runs g c = λ input took.
     let handed = handed_lines g.S.Source c.args.key c.args.reader input c.args.input.now took in
     let written = g.W.Sink.written c.args.out.now in
-    let lines : RanLines c.open_status.result [] lines_typed (g.S.Source.left input) written written =
-    subst (λ status. RanLines status [] lines_typed (g.S.Source.left input) (g.W.Sink.written c.args.out.now) (g.W.Sink.written c.args.out.now)) (sym c.open_status.ensures)
+    let lines : RanLines c.open_status.result [] 0 lines_typed (g.S.Source.left input) written written =
+    subst (λ status. RanLines status [] 0 lines_typed (g.S.Source.left input) (g.W.Sink.written c.args.out.now) (g.W.Sink.written c.args.out.now)) (sym c.open_status.ensures)
     (unopened_lines lines_typed (g.S.Source.left input) (g.W.Sink.written c.args.out.now) c.in-Err.fault) in
     record {
       answers = subst (λ status. IsTrue (is_run_answer status)) (sym c.open_status.ensures) (unopened_answers c.in-Err.fault);
@@ -55,9 +57,10 @@ returns-in-Err-clause-runs g c = λ input took.
           (subst (λ k. Judges (open_status c.in-Err.fault) (verdict (ToWrite k) image)) same
           (unopened_is_judged c.in-Err.fault c.args.key image (c.in-Err.ensures.largest refl image shown)));
       version = unopened_tells_none c.in-Err.fault c.open_status.result (g.S.Source.left input) (g.D.Disk.shown c.args.disk.now) c.open_status.ensures;
-      bad_line = bad_is_never_done c.open_status.result [] lines_typed (g.S.Source.left input) _ _ lines;
+      bad_line = bad_is_never_done c.open_status.result [] 0 lines_typed (g.S.Source.left input) _ _ lines;
       short = λ left need is. unopened_draws_none c.in-Err.fault left need (sym c.open_status.ensures ∙ is);
       asked = [];
+      answered = 0;
       lines = lines;
       takes = subst (λ status. WhereBothTold (g.S.Source.left input) (g.S.Source.left c.args.input.now) (TakesTo (line_ended status 0))) (sym c.open_status.ensures)
           (unopened_taken lines_typed (g.S.Source.left input) (g.W.Sink.written c.args.out.now) (g.S.Source.left c.args.input.now) c.in-Err.fault
@@ -99,18 +102,23 @@ returns-in-Err-clause-runs g c = λ input took.
       opening =
           let tried = c.in-Err.ensures in
           inl (record {
-            rest_kept = refl;
-            store = inr (
-              c.args.key,
-              (λ x was.
-                  let after = handed x was in
-                  after.2.0),
-              record {
-                size = tried.size;
-                throughout = tried.stops;
-                left = ⊎_elim (λ disk. inl (c.open_status.ensures ∙ ap open_status disk)) (λ leaves. inr leaves) tried.refused;
-              },
-            );
+            left = record {
+              rest_kept = refl;
+              store = inr (
+                c.args.key,
+                (λ x was.
+                    let after = handed x was in
+                    after.2.0),
+                record {
+                  size = tried.size;
+                  throughout = tried.stops;
+                  left = ⊎_elim (λ disk. inl (c.open_status.ensures ∙ ap open_status disk)) (λ leaves. inr leaves) tried.refused;
+                },
+              );
+            };
+            early = ap is_after_opening c.open_status.ensures ∙ unopened_is_early c.in-Err.fault;
+            none_asked = refl;
+            none_answered = refl;
           });
       unasked = λ is. unopened_needs_none c.in-Err.fault (sym c.open_status.ensures ∙ is);
       unopened = λ is. unopened_isnt_first c.in-Err.fault (subst (λ status. IsTrue (is_before_opening status)) c.open_status.ensures is);
@@ -120,12 +128,12 @@ pub returns-in-Ok-clause-runs : goal.returns-in-Ok-clause-runs
 returns-in-Ok-clause-runs g c = λ input took.
     let handed = handed_lines g.S.Source c.args.key c.args.reader input c.args.input.now took in
     let told = c.apply_lines.ensures.lines in
-    let lines : RanLines c.apply_lines.result told.0 lines_typed (g.S.Source.left input) (g.W.Sink.written c.args.out.now)
+    let lines : RanLines c.apply_lines.result told.0 told.1 lines_typed (g.S.Source.left input) (g.W.Sink.written c.args.out.now)
     (g.W.Sink.written c.apply_lines.new.out) =
-    lines_as_typed c.apply_lines.result told.0 (lines_ahead c.args.reader) lines_typed (g.S.Source.left input) (g.S.Source.left c.args.input.now)
+    lines_as_typed c.apply_lines.result told.0 told.1 (lines_ahead c.args.reader) lines_typed (g.S.Source.left input) (g.S.Source.left c.args.input.now)
     (g.W.Sink.written c.args.out.now) (g.W.Sink.written c.apply_lines.new.out) took.told
     (λ x y was now. (took.gives x y was now).1)
-    told.1 in
+    told.2 in
     let of_journal : KeepsVersion HandsInFirst (g.S.Source.left input) (g.D.Disk.shown c.args.disk.now) c.in-Ok.owner.state.keys.version =
     λ x was key m hands shows.
     let after = handed x was in
@@ -150,21 +158,22 @@ returns-in-Ok-clause-runs g c = λ input took.
           (subst (λ k. verdict (ToWrite k) image ≡ None) same (opened_has_no_verdict c.args.key image opens.0 opens.1));
       version = tells_version c.apply_lines.result (g.S.Source.left input) (g.D.Disk.shown c.args.disk.now) c.in-Ok.owner.state.keys.version
           (λ is. (c.apply_lines.ensures.needs is).0) c.apply_lines.ensures.new of_journal;
-      bad_line = bad_is_never_done c.apply_lines.result told.0 lines_typed (g.S.Source.left input) _ _ lines;
+      bad_line = bad_is_never_done c.apply_lines.result told.0 told.1 lines_typed (g.S.Source.left input) _ _ lines;
       short = c.apply_lines.ensures.short;
       asked = told.0;
+      answered = told.1;
       lines = lines;
       takes = λ x y was now.
           let after = handed x was in
           let one = took.takes x after.0 was after.1 in
           let first = key_taken fresh_reader c.args.reader x after.0 refl one.0 in
-          told.2 one.1 after.0 y after.1 now first.0 x first.1 first.2;
+          told.3 one.1 after.0 y after.1 now first.0 x first.1 first.2;
       read_to_end = c.apply_lines.ensures.read_to_end;
       read_whole_lines = λ is x y was now.
           let after = handed x was in
           let behind = after.2.1 in
-          cut_behind told.0 c.args.reader x after.0 y (key_taken fresh_reader c.args.reader x after.0 refl (took.takes x after.0 was after.1).0)
-          behind (told.3 is after.0 y after.1 now);
+          cut_behind told.0 told.1 c.args.reader x after.0 y (key_taken fresh_reader c.args.reader x after.0 refl (took.takes x after.0 was after.1).0)
+          behind (told.4 is after.0 y after.1 now);
       ran = λ x was key m hands shows.
           let after = handed x was in
           let gives = after.2 in
@@ -203,7 +212,7 @@ returns-in-Ok-clause-runs g c = λ input took.
           subst (λ lines. Ends c.apply_lines.result version_limits key m told.0 lines ended (g.D.Disk.may_leave c.apply_lines.new.disk) Kept) gives.1
           (ends_more version_limits key m (lines_ahead c.args.reader after.0) ended (g.D.Disk.may_leave c.apply_lines.new.disk) (Lines key) Kept more c.apply_lines.result told.0
           (subst (λ k. Ends c.apply_lines.result version_limits k m told.0 (lines_ahead c.args.reader after.0) ended (g.D.Disk.may_leave c.apply_lines.new.disk) (Lines k)) same
-          (told.4 after.0 after.1 c.args.key m (g.D.Disk.shown c.args.disk.now) begins keeps)));
+          (told.5 after.0 after.1 c.args.key m (g.D.Disk.shown c.args.disk.now) begins keeps)));
       published = λ x was key m hands shows stays.
           let D = g.D.Disk in
           let a = c.args.disk.now in
@@ -227,21 +236,39 @@ returns-in-Ok-clause-runs g c = λ input took.
           (g.D.Disk.since c.apply_lines.new.disk) c.in-Ok.ensures.later c.in-Ok.ensures.time c.apply_lines.ensures.time;
       stays = c.apply_lines.ensures.stays;
       opening = inr (record {
-        passes = λ x image was shown.
-            let after = handed x was in
-            let opens = c.in-Ok.ensures.largest refl image shown in (
-              c.args.key,
-              after.2.0,
-              opened_has_no_verdict c.args.key image opens.0 opens.1,
-            );
-        unrefused = c.apply_lines.ensures.none_of_bytes None refl;
-        settled = c.apply_lines.ensures.calm;
-        suits = λ other. second_version (g.S.Source.left input) (g.D.Disk.shown c.args.disk.now) c.in-Ok.owner.state.keys.version
-            (c.apply_lines.ensures.new other) of_journal;
+        opened = record {
+          key = c.args.key;
+          owner = c.in-Ok.owner;
+          opened = c.open_store.new.disk;
+          hands_in = λ x was. let after = handed x was in after.2.0;
+          opening =
+              let it = c.in-Ok.ensures in
+              was_opened g.D.Disk c.args.key c.in-Ok.owner c.args.disk.now c.open_store.new.disk it.largest it.log it.fresh it.told it.size it.later it.stops it.filled it.durable;
+          unrefused = c.apply_lines.ensures.none_of_bytes None refl;
+          settled = c.apply_lines.ensures.calm;
+          refused = λ is.
+              let kept = c.apply_lines.ensures.needs is in
+              let ran = c.apply_lines.new in (
+                (λ one same. (let no : ⊥ = omega (arith, same) in no), λ other. kept.0),
+                ap (λ random. world_of ran.input random ran.disk ran.out) kept.1
+                    ∙ ap (λ disk. world_of ran.input c.args.random.now disk ran.out) kept.2
+                    ∙ ap (λ out. world_of ran.input c.args.random.now c.open_store.new.disk out) kept.3,
+              );
+          taken = λ other.
+              let new = c.apply_lines.ensures.new other in
+              (λ one. absurd (new one), λ same. (let no : ⊥ = omega (arith, same) in absurd no));
+          suits = λ other. second_version (g.S.Source.left input) (g.D.Disk.shown c.args.disk.now) c.in-Ok.owner.state.keys.version
+              (c.apply_lines.ensures.new other) of_journal;
+        };
+        ran = λ other.
+            owner_ran_in c.apply_lines.result told.0 told.1 (lines_ahead c.args.reader) lines_typed (g.S.Source.left c.args.input.now) (g.S.Source.left input)
+            (place_of c.in-Ok.owner (g.R.Source.left c.args.random.now) (g.D.Disk.shown c.open_store.new.disk))
+            (g.R.Source.left c.apply_lines.new.random) (g.D.Disk.shown c.apply_lines.new.disk) (g.W.Sink.written c.args.out.now) (g.W.Sink.written c.apply_lines.new.out)
+            (λ x was. let after = handed x was in (after.0, after.1, after.2.1)) (told.6 other);
       });
       unasked = λ is.
           let kept = c.apply_lines.ensures.needs is in
           ap (λ random. world_of c.apply_lines.new.input random c.apply_lines.new.disk c.apply_lines.new.out) kept.1
-          ∙ ap (λ out. world_of c.apply_lines.new.input c.args.random.now c.apply_lines.new.disk out) kept.2;
+          ∙ ap (λ out. world_of c.apply_lines.new.input c.args.random.now c.apply_lines.new.disk out) kept.3;
       unopened = λ is. not_first c.apply_lines.result c.apply_lines.ensures.not_first is;
     }

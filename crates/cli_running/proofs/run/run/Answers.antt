@@ -3,7 +3,7 @@ use Rattle.cry_io.specs.Told.{WhereBothTold}
 use Rattle.cli_base.specs.Lines.{lines_ahead}
 use Rattle.cli_base.specs.World.{World}
 use Rattle.cli_sessions.specs.Sessions.{Ends, version_limits}
-use Rattle.cli_running.specs.Running.{FirstIsBad, RanLines, TakesTo, line_ended, lines_behind, lines_in, lines_typed}
+use Rattle.cli_running.specs.Running.{FirstIsBad, RanLines, TakesTo, is_after_opening, line_ended, lines_behind, lines_in, lines_typed}
 use Rattle.cli_sessions.specs.Opening.{Judges}
 use Rattle.cli_running.proofs.LinesRun.{bad_is_never_done, unread_lines, unread_taken}
 use Rattle.cli_sessions.proofs.OpenedPublishing.{unread_publishes}
@@ -12,7 +12,7 @@ use Rattle.cli_sessions.proofs.RunEnds.{still_told}
 use Rattle.cli_sessions.specs.Stopping.{KeepsUpTo}
 use Rattle.cli_sessions.proofs.StopLemmas.{kept_unread, time_still}
 use Rattle.public_fold.specs.Journal.{Journal}
-use Rattle.cli_running.proofs.RunOpening.{handed, bad_first_is_unjudged, first_alone, first_ends, first_is_bad, gives_first, reading_draws_none}
+use Rattle.cli_running.proofs.RunOpening.{handed, bad_first_is_unjudged, first_alone, first_ends, first_is_bad, first_is_early, gives_first, reading_draws_none}
 use Rattle.cli_sessions.proofs.StoreOpening.{seen_unopened}
 use Rattle.log_visits.specs.Asking.{verdict}
 use Rattle.log_visits.specs.Asking.Asking.{ToWrite}
@@ -46,7 +46,8 @@ returns-in-Err-clause-published g c = λ x was key m hands shows stays.
 pub returns-in-Err-clause-lines : goal.returns-in-Err-clause-lines
 returns-in-Err-clause-lines g c = (
   [],
-  subst (λ status. RanLines status [] lines_typed (g.S.Source.left c.args.input.now) (g.W.Sink.written c.args.out.now) (g.W.Sink.written c.args.out.now)) (sym c.script_status.ensures)
+  0,
+  subst (λ status. RanLines status [] 0 lines_typed (g.S.Source.left c.args.input.now) (g.W.Sink.written c.args.out.now) (g.W.Sink.written c.args.out.now)) (sym c.script_status.ensures)
       (unread_lines lines_typed (g.S.Source.left c.args.input.now) (g.W.Sink.written c.args.out.now) c.in-Err.fault c.in-Err.ensures.faults _ _ c.in-Err.ensures.count),
   subst (λ status. WhereBothTold (g.S.Source.left c.args.input.now) (g.S.Source.left c.first_owner.new.input) (TakesTo (line_ended status 0))) (sym c.script_status.ensures)
       (unread_taken lines_typed (g.S.Source.left c.args.input.now) (g.W.Sink.written c.args.out.now) (g.S.Source.left c.first_owner.new.input) c.in-Err.fault c.in-Err.ensures.faults _ _ c.in-Err.ensures.count
@@ -66,10 +67,17 @@ returns-in-Err-clause-lines g c = (
       (first_ends c.in-Err.fault c.in-Err.ensures.faults (lines_in x) (lines_ahead c.first_owner.new.reader after.0)
       (gives_first (Err c.in-Err.fault) c.new-reader.result x (lines_ahead c.first_owner.new.reader after.0) c.new-reader.ensures (c.in-Err.ensures.gives x after.0 was after.1))
       key hands version_limits m (lines_behind (lines_in x)) left shown shown written (g.D.Disk.may_leave c.args.disk.now) Kept shows kept)),
+  inl (record {
+    left = record { rest_kept = refl; store = inl refl };
+    early = ap is_after_opening c.script_status.ensures ∙ first_is_early c.in-Err.fault c.in-Err.ensures.faults _ _ c.in-Err.ensures.count;
+    none_asked = refl;
+    none_answered = refl;
+  }),
 )
 
 pub returns-in-Err-clause-bad_line : goal.returns-in-Err-clause-bad_line
-returns-in-Err-clause-bad_line g c = bad_is_never_done c.script_status.result (returns-in-Err-clause-lines g c).0 lines_typed (g.S.Source.left c.args.input.now) _ _ (returns-in-Err-clause-lines g c).1
+returns-in-Err-clause-bad_line g c = bad_is_never_done c.script_status.result (returns-in-Err-clause-lines g c).0 (returns-in-Err-clause-lines g c).1 lines_typed (g.S.Source.left c.args.input.now) _ _
+    (returns-in-Err-clause-lines g c).2
 
 pub returns-in-Err-clause-key_line : goal.returns-in-Err-clause-key_line
 returns-in-Err-clause-key_line g c = λ is x was.
@@ -80,11 +88,6 @@ returns-in-Err-clause-key_line g c = λ is x was.
 
 pub returns-in-Err-clause-short : goal.returns-in-Err-clause-short
 returns-in-Err-clause-short g c = λ left need is. reading_draws_none c.in-Err.fault left need c.in-Err.ensures.faults (sym c.script_status.ensures ∙ is)
-
--- ---- a store that isn't opened, or is
-
-pub returns-in-Err-clause-opening : goal.returns-in-Err-clause-opening
-returns-in-Err-clause-opening g c = inl (record { rest_kept = refl; store = inl refl })
 
 -- ---- time
 
@@ -145,16 +148,11 @@ returns-clause-stays g c =
     (c.open_and_apply.ensures.runs c.args.input.now (handed g.S.Source c.in-Ok.key c.new-reader.result c.first_owner.new.reader c.args.input.now
     c.first_owner.new.input c.new-reader.ensures c.in-Ok.ensures.told c.in-Ok.ensures.gives c.in-Ok.ensures.takes)).stays
 
-pub returns-clause-opening : goal.returns-clause-opening
-returns-clause-opening g c =
-    (c.open_and_apply.ensures.runs c.args.input.now (handed g.S.Source c.in-Ok.key c.new-reader.result c.first_owner.new.reader c.args.input.now
-    c.first_owner.new.input c.new-reader.ensures c.in-Ok.ensures.told c.in-Ok.ensures.gives c.in-Ok.ensures.takes)).opening
-
 pub returns-clause-lines : goal.returns-clause-lines
 returns-clause-lines g c =
     let ends = c.open_and_apply.ensures.runs c.args.input.now (handed g.S.Source c.in-Ok.key c.new-reader.result c.first_owner.new.reader
     c.args.input.now c.first_owner.new.input c.new-reader.ensures c.in-Ok.ensures.told c.in-Ok.ensures.gives c.in-Ok.ensures.takes) in
-    (ends.asked, ends.lines, ends.takes, ends.read_whole_lines, ends.ran)
+    (ends.asked, ends.answered, ends.lines, ends.takes, ends.read_whole_lines, ends.ran, ends.opening)
 
 pub returns-clause-version : goal.returns-clause-version
 returns-clause-version g c =

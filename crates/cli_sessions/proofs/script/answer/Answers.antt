@@ -17,7 +17,6 @@ pub returns-clause-answers : goal.returns-clause-answers
 returns-clause-answers g c =
     let piece : c.as_slice.result.now ≡ spell_reply c.in-Ok.reply =
     c.as_slice.ensures ∙ c.in-Ok-print_reply.ensures.line ∙ ap (λ text. text ++ spell_reply c.in-Ok.reply) c.new-text.ensures in (
-      c.in-Ok.reply,
       c.in-Ok.ensures.answers,
       λ x y was now. c.in-Ok-print.ensures.bytes x y was now ∙ ap (λ text. x ++ text) piece,
     )

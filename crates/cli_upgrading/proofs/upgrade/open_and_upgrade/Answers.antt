@@ -18,7 +18,7 @@ use Rattle.cli_base.specs.declared.status.Status.TheVariants as statuses
 use Rattle.cli_sessions.proofs.OpenedPublishing.{opened_publishes}
 use Rattle.cli_sessions.proofs.RunEnds.{still_told}
 use Rattle.cli_sessions.proofs.StopLemmas.{kept_opened, kept_unopened, time_still, told_stands}
-use Rattle.cli_sessions.proofs.StoreOpening.{each_unopened, opened_has_no_verdict, opened_stands, unopened_is_judged}
+use Rattle.cli_sessions.proofs.StoreOpening.{each_unopened, opened_has_no_verdict, opened_stands, unopened_is_judged, was_opened}
 use Rattle.cli_sessions.proofs.Versions.{KeepsVersion, owners_version, versions_told}
 use Rattle.cli_sessions.specs.Opening.{IsOfVersion, Judges, open_status}
 use Rattle.cli_sessions.specs.Sessions.{KeepsFrom, seen_from}
@@ -90,16 +90,19 @@ returns-in-Err-clause-upgrades g c = λ first rest given.
       stays = λ is.
           absurd (false≢true (sym (each_unopened (λ s. is_after_opening s ≡ false) refl refl (λ at. refl) (λ batch at. refl) refl refl fault) ∙ is));
       opening = inl (record {
-        rest_kept = refl;
-        store = inr (
-          own,
-          handed,
-          record {
-            size = tried.size;
-            throughout = tried.stops;
-            left = ⊎_elim (λ failed. inl (ap open_status failed)) (λ leaves. inr leaves) tried.refused;
-          },
-        );
+        left = record {
+          rest_kept = refl;
+          store = inr (
+            own,
+            handed,
+            record {
+              size = tried.size;
+              throughout = tried.stops;
+              left = ⊎_elim (λ failed. inl (ap open_status failed)) (λ leaves. inr leaves) tried.refused;
+            },
+          );
+        };
+        early = each_unopened (λ s. is_after_opening s ≡ false) refl refl (λ at. refl) (λ batch at. refl) refl refl fault;
       });
       undrawn = λ is. refl;
       unopened = λ is.
@@ -179,14 +182,27 @@ returns-in-Ok-clause-upgrades g c = λ first rest given.
       time = goes_on_then (D.moment a) (D.moment b) (D.since a) (D.since b) (D.since e) it.later it.time is.time;
       stays = λ after. is.calm (λ failed. false≢true (subst (λ s. IsTrue (is_after_opening s)) failed after));
       opening = inr (record {
-        passes = λ x image was shown.
-            let opens = it.largest refl image shown in
-            (own, handed x was, opened_has_no_verdict own image opens.0 opens.1);
-        unrefused = behind_cases (λ s. Judges s None) refl refl refl (λ had need. refl) refl tt tt up.result is.answers;
-        settled = is.calm;
-        suits = λ other.
-            subst (λ v. IsOfVersion HandsInAlone v (left first) (D.shown a)) (is.upgrades other)
-            (versions_told HandsInAlone (left first) (D.shown a) owner.state.keys.version of_journal);
+        opened = record {
+          key = own;
+          owner = owner;
+          opened = b;
+          hands_in = handed;
+          opening = was_opened D own owner a b it.largest it.log it.fresh it.told it.size it.later it.stops it.filled it.durable;
+          unrefused = behind_cases (λ s. Judges s None) refl refl refl (λ had need. refl) refl tt tt up.result is.answers;
+          settled = is.calm;
+          refused = λ new.
+              let kept = is.already new in (
+                (λ one. absurd (kept.0 one), λ other. absurd (other refl)),
+                ap (λ random. world_of rest random e up.new.out) kept.1
+                    ∙ ap (λ disk. world_of rest c.args.random.now disk up.new.out) kept.2
+                    ∙ ap (λ out. world_of rest c.args.random.now b out) kept.3,
+              );
+          taken = λ other. let one = is.upgrades other in (λ same. refl, λ same. one);
+          suits = λ other.
+              subst (λ v. IsOfVersion HandsInAlone v (left first) (D.shown a)) (is.upgrades other)
+              (versions_told HandsInAlone (left first) (D.shown a) owner.state.keys.version of_journal);
+        };
+        asks = is.asks;
       });
       undrawn = λ new.
           let kept = is.already new in

@@ -58,7 +58,10 @@ returns-in-Err-clause-ends g c =
       time = time_still (D.moment disk) (D.since disk) (D.shown disk) (D.may_leave disk) (λ s l at. g.met.D.Disk.only_now disk s l at)
           (λ t s l early shown leaves. g.met.D.Disk.counts_now disk t s l early shown leaves);
       stays = λ is. absurd (false≢true (sym (input_cases (λ s. is_after_opening s ≡ false) (λ line. refl) refl refl fault) ∙ is));
-      opening = inl (record { rest_kept = refl; store = inl refl });
+      opening = inl (record {
+        left = record { rest_kept = refl; store = inl refl };
+        early = input_cases (λ s. is_after_opening s ≡ false) (λ line. refl) refl refl fault;
+      });
       undrawn = λ is. refl;
       unopened = λ is. refl;
     })

@@ -1,10 +1,11 @@
-use Rattle.std.proofs.Common.{None, Ok, Err, ap, subst, sym, ◌∙◌}
+use Rattle.std.proofs.Common.{None, Ok, Err, ap, refl, subst, sym, ◌∙◌}
 use Rattle.std.proofs.lemmas.Bool.{false≢true}
 use Rattle.batch_log.specs.Moments.{FromThenOn}
 use Rattle.cli_base.proofs.InputLemmas.{fresh_reader}
 use Rattle.cli_sessions.proofs.PublishedLines.{publish_lines}
 use Rattle.cli_sessions.proofs.RunLemmas.{Fails, Step}
 use Rattle.cli_sessions.proofs.ScriptLemmas.{nothing_ran}
+use Rattle.cli_sessions.specs.OwnerSteps.{StandsIn}
 use Rattle.cli_sessions.specs.Sessions.{seen_from}
 use Rattle.cli_sessions.specs.Stopping.{LinesKeepUpTo}
 use Rattle.cli_sessions.specs.declared.script.ScriptFault.TheVariants.{ReadFault}
@@ -30,7 +31,8 @@ returns-then-version-ne-OLD_VERSION-clause-published g c = λ key m stands.
     (λ d s left at. g.met.D.Disk.only_now d s left at) (λ d t s left early is leaves. g.met.D.Disk.counts_now d t s left early is leaves)
     (λ d s is. g.met.D.Disk.shown_may_be_left d s is) key m stands c.requires.durable (Err ReadFault)
     (nothing_ran (Step g.row.R.Denot g.row.D.Denot g.R.Source.left g.R.Source.faults g.D.Disk.shown g.D.Disk.faults g.D.Disk.may_leave g.D.Disk.moment g.D.Disk.since)
-    (Fails g.row.R.Denot g.row.D.Denot g.R.Source.left g.R.Source.faults g.D.Disk.shown g.D.Disk.faults g.D.Disk.may_leave g.D.Disk.moment g.D.Disk.since) here fresh_reader None None)
+    (Fails g.row.R.Denot g.row.D.Denot g.R.Source.left g.R.Source.faults g.D.Disk.shown g.D.Disk.faults g.D.Disk.may_leave g.D.Disk.moment g.D.Disk.since)
+    (λ (x : OwnerView × g.row.R.Denot × g.row.D.Denot). StandsIn x.0) here fresh_reader None None)
 
 -- ---- it was answered
 
@@ -95,3 +97,26 @@ pub returns-in-Err-clause-short : goal.returns-in-Err-clause-short
 returns-in-Err-clause-short g c = λ left need is.
     ran_dry c.args.owner left need (g.R.Source.left c.args.random.now) (g.R.Source.left c.upgrade-upgraded.new.random)
     (c.in-Err.ensures.short left need (ap Err (short_fault c.in-Err.fault left need (sym c.apply_status.ensures ∙ is))))
+
+-- ---- the owner was asked
+
+pub returns-then-version-ne-OLD_VERSION-clause-asks : goal.returns-then-version-ne-OLD_VERSION-clause-asks
+returns-then-version-ne-OLD_VERSION-clause-asks g c = λ other. absurd (other refl)
+
+pub returns-in-Ok-clause-asks : goal.returns-in-Ok-clause-asks
+returns-in-Ok-clause-asks g c = λ other. record {
+  answer = Ok c.in-Ok.reply;
+  becomes = c.upgrade-upgraded.new.self;
+  acts = c.in-Ok.ensures.acts;
+  kept = c.in-Ok.ensures.kept;
+  told = (c.tell_reply.ensures.answers, c.tell_reply.ensures.printed);
+}
+
+pub returns-in-Err-clause-asks : goal.returns-in-Err-clause-asks
+returns-in-Err-clause-asks g c = λ other. record {
+  answer = Err c.in-Err.fault;
+  becomes = c.upgrade-upgraded.new.self;
+  acts = c.in-Err.ensures.acts;
+  kept = c.in-Err.ensures.kept;
+  told = c.apply_status.ensures;
+}

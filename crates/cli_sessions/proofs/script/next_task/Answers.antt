@@ -1,11 +1,11 @@
 use Rattle.std.proofs.Common.{◌≡◌, None, Err, ap, subst, sym, ◌∙◌}
-use Rattle.script_text.specs.Commands.{Reads, request_in}
+use Rattle.script_text.specs.Tasks.{ReadsTask, task_in}
 use Rattle.cli_base.specs.Lines.{Gives, Takes, bytes_ahead, lines_ahead}
 use Rattle.cli_sessions.specs.Script.{IsBadFirst}
 use Rattle.cli_base.specs.declared.lines.Next.TheVariants.{Line, PastLimit}
 use Rattle.cli_base.proofs.InputLemmas.{taken_one}
 use Rattle.cli_sessions.proofs.Takings.{line_taken}
-use Rattle.cli_sessions.proofs.script.next_command.Goals as goal
+use Rattle.cli_sessions.proofs.script.next_task.Goals as goal
 
 pub returns-in-Ok-End-clause-gives : goal.returns-in-Ok-End-clause-gives
 returns-in-Ok-End-clause-gives g c = λ x y was now.
@@ -22,15 +22,15 @@ pub returns-in-Ok-clause-gives : goal.returns-in-Ok-clause-gives
 returns-in-Ok-clause-gives g c = λ x y was now.
     let given = subst (λ next. Gives next (lines_ahead c.args.reader.now x) (lines_ahead c.next_line.new.self y)) c.in-Ok-Line.field-0-is
     (c.in-Ok-Line.ensures.lines x y was now) in
-    (c.in-Ok-Line.bytes.items, given, ap request_in (sym c.as_slice.ensures) ∙ c.in-Ok.ensures.reads)
+    (c.in-Ok-Line.bytes.items, given, ap task_in (sym c.as_slice.ensures) ∙ c.in-Ok.ensures.reads)
 
 pub returns-in-Err-BadLine-clause-gives : goal.returns-in-Err-BadLine-clause-gives
 returns-in-Err-BadLine-clause-gives g c = λ x y was now.
     let given = subst (λ next. Gives next (lines_ahead c.args.reader.now x) (lines_ahead c.next_line.new.self y)) c.in-Ok-Line.field-0-is
     (c.in-Ok-Line.ensures.lines x y was now) in
-    let bad : request_in c.as_slice.result.now ≡ None =
-    subst (λ fault. Reads (Err fault) (request_in c.as_slice.result.now)) c.in-Err-BadLine.field-0-is c.in-Err-BadLine.ensures.reads in
-    subst IsBadFirst (sym given) (ap request_in (sym c.as_slice.ensures) ∙ bad)
+    let bad : task_in c.as_slice.result.now ≡ None =
+    subst (λ fault. ReadsTask (Err fault) (task_in c.as_slice.result.now)) c.in-Err-BadLine.field-0-is c.in-Err-BadLine.ensures.reads in
+    subst IsBadFirst (sym given) (ap task_in (sym c.as_slice.ensures) ∙ bad)
 
 pub returns-in-Ok-clause-takes : goal.returns-in-Ok-clause-takes
 returns-in-Ok-clause-takes g c = λ x y was now.
