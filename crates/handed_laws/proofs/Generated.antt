@@ -70,14 +70,14 @@ fresh_stands drawn x is = record {
 
 pub script_unveils : {D : Type 0} (disks : disk.Ghosts D) (status : Status) (seed count : ℕ) (left_before left_after : Option (List ℕ)) (before after : D) (written_before written_after : Option (List ℕ))
     (made : Generates disks status seed count left_before left_after before after written_before written_after) (x y : List ℕ) → disks.shown made.start ≡ Some x → disks.shown after ≡ Some y
-    → ScriptUnveils disks (piece made.drawn 0) (made_with (root_keys made.drawn)) x made.start after
+    → ScriptUnveils disks (piece made.hands.drawn 0) (made_with (root_keys made.hands.drawn)) x made.start after
 script_unveils {D} disks status seed count left_before left_after before after written_before written_after made x y is_x is_y =
-    let key = piece made.drawn 0 in
-    let m = made_with (root_keys made.drawn) in
+    let key = piece made.hands.drawn 0 in
+    let m = made_with (root_keys made.hands.drawn) in
     let since = disks.since after (disks.moment made.start) in
     let to = filled_by status seed count key m (unheard made.behind left_after (disks.shown after)) (disks.may_leave after)
-    (LinesKeepUpTo key m (disks.shown made.start) (disks.shown after) since) written_before written_after (made_valid made_version (root_keys made.drawn) (inr refl) refl) (made.fills y is_y) in
-    let whole = fresh_stands made.drawn x (made.stands.shows x is_x) in
+    (LinesKeepUpTo key m (disks.shown made.start) (disks.shown after) since) written_before written_after (made_valid made_version (root_keys made.hands.drawn) (inr refl) refl) (made.fills y is_y) in
+    let whole = fresh_stands made.hands.drawn x (made.stands.shows x is_x) in
     let reached : Journal = to.reached in (
       reached,
       to.longer,

@@ -46,7 +46,7 @@ pub fn generated_scripts_keep_secrets<D: Disk>()
     ensures { (status : Status) (seed count : ℕ) (left_before left_after written_before written_after : Option (List ℕ)) (before after : D)
         (made : Generates D.Disk status seed count left_before left_after before after written_before written_after)
         (x y : List ℕ) → D.shown made.start ≡ Some x → D.shown after ≡ Some y →
-        ScriptUnveils D.Disk (piece made.drawn 0) (made_with (root_keys made.drawn)) x made.start after }
+        ScriptUnveils D.Disk (piece made.hands.drawn 0) (made_with (root_keys made.hands.drawn)) x made.start after }
 {}
 
 /// Law: a call that hands over a veil key before a stop is sure to leave the batch breaks this. Where the disk shows the batch behind its

@@ -24,9 +24,9 @@ use Rattle.cry_io.specs.declared.disk.Disk as disk
 use Rattle.cli_making.specs.Promises.Gen.{GenEnds}
 use Rattle.cli_making.specs.Promises.Make.{MakeEnds}
 use Rattle.cli_running.specs.Promises.Run.{RunEnds}
-use Rattle.cli_running.specs.Running.{HandsInFirst, key_in_lines, lines_in}
+use Rattle.cli_running.specs.Running.{HandsInFirst, RunsOpened, RunsUnopened, key_in_lines, lines_in}
 use Rattle.cli_upgrading.specs.Promises.Upgrade.{UpgradeEnds}
-use Rattle.cli_upgrading.specs.Upgrading.{HandsInAlone}
+use Rattle.cli_upgrading.specs.Upgrading.{HandsInAlone, UpgradesOpened, UpgradesUnopened}
 use Rattle.cli_base.specs.Status.{is_before_write}
 use Rattle.cli_base.specs.World.{Senses, World}
 use Rattle.cli_base.specs.declared.status.Status.{Status}
@@ -223,9 +223,9 @@ module _ {S R D W : Type 0} (see : Senses S R D W)
     never_opened : (refusal : Status) (version : ℕ) → HasOpened HandsIn refusal version see status before after → SameDisk
     never_opened refusal version opened s c at =
         let x = shows.0 in
-        let passes = opened.passes typed x told shows.1 in
-        let wrong = other_opening owner passes.0 x (other passes.0 passes.1) most_store_bytes (whole_log owner (bodies_of owner m)) (opened_journal owner m x shows.2) in
-        let no : None ≡ Some (OfBytes WrongKey) = sym passes.2 ∙ refused_verdict passes.0 x wrong in
+        let key = opened.key in
+        let wrong = other_opening owner key x (other key (opened.hands_in typed told)) most_store_bytes (whole_log owner (bodies_of owner m)) (opened_journal owner m x shows.2) in
+        let no : None ≡ Some (OfBytes WrongKey) = sym (opened.opening.passes x shows.1) ∙ refused_verdict key x wrong in
         absurd cc
 
     opening_leaves : (refusal : Status) (version : ℕ) → LeavesUnopened HandsIn see status before after ⊎ HasOpened HandsIn refusal version see status before after
@@ -241,12 +241,14 @@ module _ {S R D W : Type 0} (see : Senses S R D W)
     pub run_leaves_store : IsByOther owner typed → RunEnds see status before after
         → is_some (see.disks.shown after.disk) ≡ is_some (see.disks.shown before.disk) → LeavesDisk
     run_leaves_store other run stays_told =
-        opening_leaves HandsInFirst owner m typed told shows other statuses.NeedsUpgrade 2 run.opening run.later run.time stays_told
+        opening_leaves HandsInFirst owner m typed told shows other statuses.NeedsUpgrade 2
+        (⊎_elim (λ (it : RunsUnopened see status run.asked run.answered before after). inl it.left) (λ (it : RunsOpened see status run.asked run.answered before after). inr it.opened) run.opening) run.later run.time stays_told
 
     pub upgrade_leaves_store : IsUpgradeByOther owner typed → UpgradeEnds see status before after
         → is_some (see.disks.shown after.disk) ≡ is_some (see.disks.shown before.disk) → LeavesDisk
     upgrade_leaves_store other call stays_told =
-        opening_leaves HandsInAlone owner m typed told shows other statuses.AlreadyNew 1 call.opening call.later call.time stays_told
+        opening_leaves HandsInAlone owner m typed told shows other statuses.AlreadyNew 1
+        (⊎_elim (λ (it : UpgradesUnopened see status before after). inl it.left) (λ (it : UpgradesOpened see status before after). inr it.opened) call.opening) call.later call.time stays_told
 
   -- over a store that stands `make` and `gen` answer that the disk isn't blank
   module _ (owner : List ℕ) (m : Journal) (sized : (s : List ℕ) → see.disks.shown before.disk ≡ Some s → length s ≡ see.disks.size_of before.disk)

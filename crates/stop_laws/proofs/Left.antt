@@ -1,5 +1,5 @@
 -- What calls and stops leave of a store.
-use Rattle.std.proofs.Common.{◌≡◌, ◌≤◌, ◌⊎◌, ⊎_elim, inl, inr, ℕ, false, List, [], ◌∷◌, ◌++◌, length, Option, Some, arith, sym, ap, subst, ◌∙◌}
+use Rattle.std.proofs.Common.{◌≡◌, ◌≤◌, ◌⊎◌, ⊎_elim, inl, inr, ℕ, true, false, List, [], ◌∷◌, ◌++◌, length, Option, Some, arith, sym, ap, subst, ◌∙◌}
 use Rattle.std.proofs.Math.Seq.{take-length}
 use Rattle.commit_journal.specs.Holding.{IsBetween, IsPrefix}
 use Rattle.commit_journal.proofs.KeptLemmas.{prefix_same, prefix_trans}
@@ -10,14 +10,15 @@ use Rattle.cry_io.specs.Told.{WhereBothTold}
 use Rattle.cry_io.specs.declared.disk.Disk as disk
 use Rattle.cli_base.specs.Lines.{InputLine}
 use Rattle.cli_base.specs.Outside.{PrintsAll, PrintsFront}
-use Rattle.cli_sessions.specs.Sessions.{Ends, HasRun, IsUnopened, LeavesAt, RanCut, RanTo, RanUnwritten, Seen, SessionOver, seen_from, version_limits}
+use Rattle.cli_sessions.specs.Sessions.{Ends, HasRun, IsUnopened, LeavesAt, RanCut, RanTo, RanUnwritten, Seen, SessionOver, Stood, seen_from, version_limits}
 use Rattle.cli_running.specs.Running.{lines_behind, lines_in}
 use Rattle.cli_upgrading.specs.Upgrading.{EndsUpgrade, HasAnswered, HasRested, PrintsReply, WasCutShort}
 use Rattle.cli_sessions.specs.Script.{Asks, PrintsCut}
 use Rattle.cli_sessions.specs.Stopping.{KeepsUpTo}
 use Rattle.cli_base.specs.declared.status.Status.{Status}
 use Rattle.cli_base.specs.declared.status.Status.TheVariants as statuses
-use Rattle.cli_sessions.proofs.RunEnds.{asks_fewer}
+use Rattle.cli_sessions.proofs.FewerLines.{asks_fewer}
+use Rattle.cli_sessions.proofs.StoodLemmas.{all_stood}
 use Rattle.cli_sessions.proofs.ScriptLemmas.{whole_is_cut}
 use Rattle.cli_sessions.proofs.StopLemmas.{line_grows, settled_holds_journal}
 use Rattle.journal_bytes.specs.Journals.{HoldsBetween, Kept, ShowsJournal, StandsForJournal}
@@ -135,22 +136,25 @@ module _ (key : List ℕ) (l h m : Journal) (left_before left_after was shown wr
     Left = Leaves key l h was shown MakesLines HoldsLines since may_leave
 
     settled : (asked : List Request) (rest : List InputLine) (asks : Asks asked lines rest) (session : SessionOver version_limits m asked)
-        → LeavesAt key m session.now seen may_leave → KeepsTo session.now → WhereBothTold written_before written_after (PrintsCut session.replies) → Left
-    settled asked rest asks session leaves kept prints =
+        → Stood true version_limits m session.drawn asks → LeavesAt key m session.now seen may_leave → KeepsTo session.now
+        → WhereBothTold written_before written_after (PrintsCut session.replies) → Left
+    settled asked rest asks session stood leaves kept prints =
         rested MakesLines HoldsLines session.now (session_begins version_limits m asked session) leaves kept
-        (inr (m, m_high, shows, session_made m asked lines rest asks session))
-        (inr (m, shows, record { asked = asked; rest = rest; asks = asks; session = session; prints = prints; holds = prefix_same session.now }))
+        (inr (m, m_high, shows, session_made m asked lines rest asks session stood))
+        (inr (m, shows, record { asked = asked; rest = rest; asks = asks; session = session; stood = stood; prints = prints; holds = prefix_same session.now }))
 
     ran_on : (rest : List InputLine) → HasRun version_limits key m lines rest seen may_leave KeepsTo → Left
-    ran_on rest run = settled run.asked rest run.asks run.session run.leaves run.kept (λ x y before after. whole_is_cut run.session.replies x y (run.prints x y before after))
+    ran_on rest run = settled run.asked rest run.asks run.session (all_stood version_limits m run.session.drawn run.asked lines rest run.asks run.stood) run.leaves run.kept
+        (λ x y before after. whole_is_cut run.session.replies x y (run.prints x y before after))
 
     cut : RanCut version_limits key m lines seen may_leave KeepsTo → Left
-    cut run = settled run.asked run.rest run.asks run.session run.leaves run.kept run.prints
+    cut run = settled run.asked run.rest run.asks run.session run.stood run.leaves run.kept run.prints
 
     to_next : (ran : RanTo version_limits m lines seen) → LeavesAt key m ran.session.now seen may_leave → KeepsTo ran.session.now → Left
     to_next ran leaves kept =
         let fewer = asks_fewer ran.asked ran.next lines ran.rest ran.asks in
-        settled ran.asked _ fewer.1 ran.session leaves kept (λ x y before after. whole_is_cut ran.session.replies x y (ran.prints x y before after))
+        settled ran.asked fewer.0 fewer.1 ran.session (λ rest. fewer.2 version_limits (opened m (joined ran.session.drawn ++ rest)) (ran.stood rest)) leaves kept
+        (λ x y before after. whole_is_cut ran.session.replies x y (ran.prints x y before after))
 
     unwritten : RanUnwritten version_limits key m lines seen may_leave KeepsTo → Left
     unwritten run =
@@ -162,15 +166,16 @@ module _ (key : List ℕ) (l h m : Journal) (left_before left_after was shown wr
           grown = prefix_trans l m ran.session.now low_m (session_begins version_limits m ran.asked ran.session);
           holds = run.holds;
           kept = run.kept.kept l h held low_m;
-          made = inr (m, m_high, shows, next_made m ran.asked ran.next lines ran.rest ran.asks ran.session ran.is_accepted run.last run.last_count run.last_sizes);
+          made = inr (m, m_high, shows, next_made m ran.asked ran.next lines ran.rest ran.asks ran.session ran.stood ran.is_accepted run.last run.last_count run.last_sizes);
           acknowledged = inr (
             m,
             shows,
             record {
               asked = ran.asked;
-              rest = _;
+              rest = fewer.0;
               asks = fewer.1;
               session = ran.session;
+              stood = λ rest. fewer.2 version_limits (opened m (joined ran.session.drawn ++ rest)) (ran.stood rest);
               prints = λ x y before after. whole_is_cut ran.session.replies x y (ran.prints x y before after);
               holds = prefix_same ran.session.now;
             },
@@ -324,6 +329,7 @@ run_more key was typed before after j more longer holds =
         rest = all.2.rest;
         asks = all.2.asks;
         session = all.2.session;
+        stood = all.2.stood;
         prints = all.2.prints;
         holds = prefix_trans all.2.session.now j more all.2.holds longer;
       },

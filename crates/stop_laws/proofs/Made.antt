@@ -6,9 +6,10 @@ use Rattle.commit_journal.proofs.KeptLemmas.{prefix_same, prefix_trans}
 use Rattle.cry_base.specs.Requests.{Request}
 use Rattle.cry_base.specs.declared.commands.Reply.{Reply}
 use Rattle.cli_base.specs.Lines.{InputLine}
-use Rattle.cli_sessions.specs.Sessions.{SessionOver, version_limits}
+use Rattle.cli_sessions.specs.Sessions.{SessionOver, Stood, version_limits}
 use Rattle.cli_sessions.specs.Script.{Asks}
 use Rattle.cli_sessions.proofs.AnsweredScripts.{going_more, joined_more}
+use Rattle.cli_sessions.proofs.StoodLemmas.{stood_behind}
 use Rattle.cli_upgrading.specs.Upgrading.{IsAccepted, IsTooFull}
 use Rattle.journal_bytes.specs.Script.{Going, accepted_going, answer, draws_of, journal_then, keys_from, line_going, opened, script_going}
 use Rattle.journal_bytes.specs.Upgrading.{upgraded_then}
@@ -26,6 +27,7 @@ made_front m lines j front shorter made = record {
   asks = made.asks;
   drawn = made.drawn;
   drawn_sizes = made.drawn_sizes;
+  stood = made.stood;
   now = made.now;
   begun = made.begun;
   goes = made.goes;
@@ -51,14 +53,15 @@ answered_begins m drawn reply now answers =
     ⊎_elim (λ is. subst (IsPrefix m) (sym is.3) (upgrade_begins m drawn)) (λ full. subst (IsPrefix m) (sym full.3) (prefix_same m)) answers
 
 -- a session makes the journal where it stands
-pub session_made : (m : Journal) (asked : List Request) (before after : List InputLine) → Asks asked before after → (session : SessionOver version_limits m asked)
-    → IsMadeOf m before session.now
-session_made m asked before after asks session = record {
+pub session_made : (m : Journal) (asked : List Request) (before after : List InputLine) (asks : Asks asked before after) (session : SessionOver version_limits m asked)
+    → Stood true version_limits m session.drawn asks → IsMadeOf m before session.now
+session_made m asked before after asks session stood = record {
   asked = asked;
   rest = after;
   asks = asks;
   drawn = session.drawn;
   drawn_sizes = session.drawn_sizes;
+  stood = stood;
   now = session.now;
   begun = session.begun;
   goes = session.goes;
@@ -67,7 +70,7 @@ session_made m asked before after asks session = record {
 
 -- and the one with its next command, where that is accepted and drew its keys
 module _ (m : Journal) (asked : List Request) (next : Request) (before after : List InputLine) (asks : Asks (asked ++ next ∷ []) before after)
-    (session : SessionOver version_limits m asked) (accepted : answer version_limits session.now session.begun next ≡ None)
+    (session : SessionOver version_limits m asked) (stood : Stood true version_limits m session.drawn asks) (accepted : answer version_limits session.now session.begun next ≡ None)
     (last : List (List ℕ)) (count : length last ≡ draws_of session.now next) (sizes : AreKeys last) where
   abbrev then : List (List ℕ) → List ℕ → Going
   then keys draws = record { journal = journal_then session.now session.begun next keys; begun = true; draws = draws }
@@ -91,6 +94,7 @@ module _ (m : Journal) (asked : List Request) (next : Request) (before after : L
     asks = asks;
     drawn = session.drawn ++ last;
     drawn_sizes = All-append Whole session.drawn last session.drawn_sizes sizes;
+    stood = stood_behind true version_limits m session.drawn last (asked ++ next ∷ []) before after asks stood;
     now = journal_then session.now session.begun next last;
     begun = true;
     goes = λ draws.

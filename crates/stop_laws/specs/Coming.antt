@@ -4,13 +4,13 @@
 -- A run over a disk that shows a journal m adds an entry to m for each command that it accepts, with `Session` before the first one, and
 -- adds no other. An upgrade that is accepted adds `Session` and its own entry. A stop may leave a front of what it made: then the next call
 -- goes on from that front.
-use Rattle.std.specs.Prelude.{◌≡◌, ◌⊎◌, ℕ, Bool, false, List, ◌++◌, length, None}
+use Rattle.std.specs.Prelude.{◌≡◌, ◌⊎◌, ℕ, Bool, true, false, List, ◌++◌, length, None}
 use Rattle.commit_journal.specs.Holding.{IsPrefix}
 use Rattle.cry_base.specs.Requests.{Request}
 use Rattle.cry_io.specs.declared.disk.Disk as disk
 use Rattle.cli_base.specs.Lines.{InputLine}
 use Rattle.cli_running.specs.Running.{lines_behind, lines_in}
-use Rattle.cli_sessions.specs.Sessions.{version_limits}
+use Rattle.cli_sessions.specs.Sessions.{Stood, version_limits}
 use Rattle.cli_sessions.specs.Script.{Asks}
 use Rattle.journal_bytes.specs.Journals.{ShowsJournal, StandsForJournal}
 use Rattle.journal_bytes.specs.Script.{opened, script_going}
@@ -22,13 +22,15 @@ use Rattle.stop_laws.specs.Runs.CallOver.{ByOther, ByOwner, ByUpgrade}
 use Rattle.stop_laws.specs.Runs.Runs.{Begun, Ran, StopsBehind, StopsIn}
 
 -- The journal is what the first of these lines made of m, or a front of it: a session over m was asked their commands, one after another,
--- and drew these keys, 32 bytes each, for those that it accepted.
+-- and drew these keys, 32 bytes each, for those that it accepted. Each line's commands are those that it stood for where it came, the last
+-- one's maybe the first of these alone.
 pub record IsMadeOf (m : Journal) (lines : List InputLine) (j : Journal) : Type 0 where
   pub asked : List Request
   pub rest : List InputLine
   pub asks : Asks asked lines rest
   pub drawn : List (List ℕ)
   pub drawn_sizes : AreKeys drawn
+  pub stood : Stood true version_limits m drawn asks
   pub now : Journal
   pub begun : Bool
   pub goes : (draws : List ℕ) → script_going version_limits (opened m (joined drawn ++ draws)) asked

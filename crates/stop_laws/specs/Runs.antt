@@ -6,7 +6,7 @@
 -- left it. A stop comes behind a call, or at any moment in one. It leaves bytes that the disk might leave then; the disk shows these, and
 -- nothing is pending. A command or an upgrade was acknowledged where its whole reply line was taken. A run that met a stop at a moment in
 -- it is told like one that met a fault of the disk then: the clause of its exit says what it had acknowledged.
-use Rattle.std.specs.Prelude.{◌≡◌, ◌≤◌, ◌⊎◌, ℕ, List, Option, Some}
+use Rattle.std.specs.Prelude.{◌≡◌, ◌≤◌, ◌⊎◌, ℕ, true, List, Option, Some}
 use Rattle.batch_log.specs.Moments.{FromThenOn}
 use Rattle.commit_journal.specs.Holding.{GoesOn, IsPrefix}
 use Rattle.cry_base.specs.Requests.{Request}
@@ -19,7 +19,7 @@ use Rattle.cli_base.specs.Outside.{PrintsFront}
 use Rattle.cli_running.specs.Published.{PublishesTyped}
 use Rattle.cli_running.specs.Running.{EndsTyped, key_in_lines, lines_behind, lines_in}
 use Rattle.cli_sessions.specs.Published.{PublishesFor}
-use Rattle.cli_sessions.specs.Sessions.{SessionOver, seen_from, version_limits}
+use Rattle.cli_sessions.specs.Sessions.{SessionOver, Stood, seen_from, version_limits}
 use Rattle.cli_sessions.specs.Script.{Asks, PrintsCut}
 use Rattle.cli_upgrading.specs.Upgrading.{HandsInAlone, IsAccepted, IsTooFull, PrintsReply, UpgradesTyped}
 use Rattle.cli_base.specs.declared.status.Status.{Status}
@@ -90,13 +90,15 @@ pub data Runs {D : Type 0} (disks : disk.Ghosts D) (key : List ℕ) (start : D) 
   StopsIn : {before after next : D} {there bytes : List ℕ} → Runs disks key start before → CallOver disks key before after
       → disks.since after (disks.moment before) there bytes → IsLeft disks bytes next → Runs disks key start next
 
--- The lines that were asked over m, and the replies to them: all that was printed is these, but for some of the last; and the journal
--- begins with all that these lines made of m.
+-- The lines that were asked over m, each for the commands that it stood for where it came, the last one maybe for the first of these alone,
+-- and the replies to them: all that was printed is these, but for some of the last; and the journal begins with all that these lines made
+-- of m.
 pub record Answered (m : Journal) (lines : List InputLine) (written_before written_after : Option (List ℕ)) (j : Journal) : Type 0 where
   pub asked : List Request
   pub rest : List InputLine
   pub asks : Asks asked lines rest
   pub session : SessionOver version_limits m asked
+  pub stood : Stood true version_limits m session.drawn asks
   pub prints : WhereBothTold written_before written_after (PrintsCut session.replies)
   pub holds : IsPrefix session.now j
 
