@@ -10,13 +10,15 @@ use std::alloc::Global;
 use std::test::Fail;
 use store_owner::ApplyFault;
 
-pub(crate) const LINES: [&[u8]; 9] = [
+pub(crate) const LINES: [&[u8]; 11] = [
     b"mkdir /a",
     b"write /a/x 00ff",
     b"holder",
     b"grant 1 /a",
+    b"grant 1 /a/x",
     b"mkdir /b",
     b"move /a/x /b",
+    b"revoke 1 /b/x",
     b"rm /b/x",
     b"revoke 1 /a",
     b"rename /a z",
