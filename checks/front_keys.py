@@ -14,7 +14,7 @@ LARGE = random.Random("a large file").randbytes(1_100_000)     # in a store it's
 
 
 def all_keys(check):
-    for part in (making, init_that_is_killed, sharing, files_granted, forms_granted, stopped_in_a_granted_file, locks, older_copies,
+    for part in (making, init_that_is_killed, sharing, files_granted, forms_granted, stopped_in_a_granted_file, replaced, locks, older_copies,
                  exchanged, stopped_holder, renewed):
         part(check)
 
@@ -222,6 +222,75 @@ def stopped_in_a_granted_file(check):
     done(check, "put again", front(check, store, "put", folder, "/trip"))
     check.expect("who reads it then", granted_in(check, store), {"/trip/large": ["ben"]})
     check.expect("and what", done(check, "cat", front(check, store, "cat", "/trip/large", "--as", "ben")), LARGE[::-1])
+
+
+def replaced(check):
+    """A holder gets a new key: who has the old one is shown nothing, and the new one shows what the old one did."""
+    store, folder = fresh(check, "group.store"), os.path.join(check.folder, "group")
+    os.makedirs(os.path.join(folder, "in"))
+    for name, data in (("in/notes", b"one"), ("large", LARGE), ("beside", b"two")):
+        check.put(os.path.join("group", name), data)
+    done(check, "put", front(check, store, "put", folder, "/trip"))
+    for name in ("team", "other"):
+        done(check, "holder add", front(check, store, "holder", "add", name))
+    for name, path in (("team", "/trip/large"), ("other", "/trip/large"), ("team", "/trip/in")):
+        done(check, f"grant on {path}", front(check, store, "grant", name, path))
+    own, first = key_file(check, store, "team.key"), read(key_file(check, store, "team.key"))
+    shown, granted = check.call([store, "-", "list"], first), ["/trip/in", "/trip/large"]
+    printed = json.loads(done(check, "holder replace", front(check, store, "holder", "replace", "team", "--json")))
+    check.expect("what holder replace prints", printed, {"name": "team", "number": 3, "key": own, "granted": granted})
+    check.expect("the old key is kept", read(own + ".1") == first, True)
+    check.expect("what both keys show", [check.call([store, "-", "list"], key) for key in (first, read(own))], [(0, b"", b""), shown])
+    due = [{"name": "other", "number": 2, "granted": ["/trip/large"], "from": "store"},
+           {"name": "team", "number": 3, "granted": granted, "from": "store"}]
+    check.expect("who", json.loads(done(check, "who", front(check, store, "who", "--json"))), due)
+    there, size = os.path.join(check.folder, "group.key"), os.stat(store).st_size
+    expect_told(check, "nobody is replaced", front(check, store, "holder", "replace", "nobody"), 1, "no holder is called")
+    expect_told(check, "to what stands", front(check, store, "holder", "replace", "team", "--to", store), 1, "never written over")
+    check.expect("these write nothing", os.stat(store).st_size, size)
+    done(check, "holder replace --to", front(check, store, "holder", "replace", "team", "--to", there))
+    check.expect("the new key alone shows it", check.call([store, "-", "list"], read(there)), shown)
+    check.expect("what the key folder has", os.path.exists(own), False)
+    check.expect("modes of keys", modes(keys_of(check)) | {stat.S_IMODE(os.stat(there).st_mode)}, {0o700, 0o600})
+    stopped_replacements(check, store, shown)
+    replacement_without_room(check, store, folder)
+
+
+def stopped_replacements(check, store, shown):
+    """What a stop left of a replacement is ended by the next one, whether or not the key folder has the old key."""
+    owner, own = read(key_file(check, store, "owner.key")), key_file(check, store, "team.key")
+    for lines in (), ("grant {1} /trip/in",), ("grant {1} /trip/in", "grant {1} /trip/large-.parts", "revoke {0} /trip/in"):
+        for is_known in (True, False):
+            done(check, "holder replace", front(check, store, "holder", "replace", "team"))
+            old, number = read(own), int(read(own).split(b" ")[1])
+            reply = check.call([store, "/dev/urandom", "run"], owner + b"holder\n")[1]
+            typed = "".join(line.format(number, number + 1) + "\n" for line in lines).encode()
+            _, replies, _ = check.call([store, "/dev/urandom", "run"], owner + typed)
+            os.chmod(check.put("next", reply + replies), 0o600)
+            os.rename(os.path.join(check.folder, "next"), own + ".next")
+            if not is_known:
+                os.remove(own)
+            what = f"a stop behind {lines}, the old key {'is' if is_known else 'is not'} known"
+            done(check, what, front(check, store, "holder", "replace", "team"))
+            came = [check.call([store, "-", "list"], key) for key in (old, read(own))]
+            check.expect(what, (came, read(own) == reply, os.path.exists(own + ".next")), ([(0, b"", b""), shown], True, False))
+            done(check, "who", front(check, store, "who"))
+
+
+def replacement_without_room(check, store, folder):
+    """The disk fails in the grants of a replacement: what was done is told, and the next one ends it."""
+    for n in range(20):
+        os.mkdir(os.path.join(folder, f"d{n}"))
+    done(check, "put", front(check, store, "put", folder, "/trip"))
+    for n in range(20):
+        done(check, "grant", front(check, store, "grant", "team", f"/trip/d{n}"))
+    own = key_file(check, store, "team.key")
+    old, shown = read(own), check.call([store, "-", "list"], read(own))
+    stopped = program_that(check, "no_room", f'ulimit -f {(os.path.getsize(store) + 3000) // 512}; exec "{check.program}" "$@"')
+    came = front(check, store, "holder", "replace", "team", program=stopped)
+    check.expect("a replacement without room", (came[0], len(came[2].splitlines()), os.path.exists(own + ".next")), (1, 1, True))
+    done(check, "and then", front(check, store, "holder", "replace", "team"))
+    check.expect("all went over", [check.call([store, "-", "list"], key) for key in (old, read(own))], [(0, b"", b""), shown])
 
 
 def locks(check):

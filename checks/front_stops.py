@@ -1,4 +1,4 @@
-"""The front end killed at each of its steps, in init, holder add, put, get, upgrade, renew and restore: what stands then, and what doing it
+"""The front end killed at each of its steps, in init, holder add and replace, put, get, upgrade, renew and restore: what stands then, and what doing it
 again comes to.
 
 A step is what changes a file, a folder or a lock, begins a program, or sends it a line. The front end runs in a process that is forked
@@ -9,6 +9,7 @@ from this one, and is killed just before its step of a number, until there is no
 That kills it at each step, which takes a quarter of an hour; checks/front_end asks for every STRIDE-th.
 """
 import contextlib
+import glob
 import io
 import json
 import os
@@ -99,6 +100,7 @@ def all_stops(check):
     holders(check, store)
     puts(check, store)
     gets(check, store)
+    replacements(check, store)
     upgrades(check)
     copies(check, small(check))
     units.PART_SIZE = size
@@ -154,6 +156,23 @@ def holders(check, store):
         return wrong + ([] if shown == (0, b"", b"") else [shown])
 
     stops(check, "holder add", lambda number: [store, "holder", "add", f"h{number}"], stands, lambda number: None)
+
+
+def replacements(check, store):
+    """No key that was replaced shows anything, and the new one shows what the first did, once it's done again."""
+    for words in (["holder", "add", "team"], ["grant", "team", "/c/new"], ["grant", "team", "/t"]):
+        check.expect(f"{words} before stops", called(check, [store, *words])[0], 0)
+    own = key_file(check, store, "team.key")
+    due = check.call([store, "-", "list"], harness.read(own))
+
+    def stands(_, __):
+        wrong = ends(check, store, "holder", "replace", "team")
+        old = [name for name in glob.glob(own + ".*") if check.call([store, "-", "list"], harness.read(name)) != (0, b"", b"")]
+        who, told = called(check, [store, "who"])
+        is_shown = check.call([store, "-", "list"], harness.read(own)) == due
+        return wrong + old + ([] if is_shown and who == 0 else [("another listing", told)])
+
+    stops(check, "holder replace", lambda number: [store, "holder", "replace", "team"], stands, lambda number: None)
 
 
 def puts(check, store):

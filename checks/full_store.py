@@ -1,5 +1,5 @@
-"""A store of version 1 of as many bytes as one may have, in a file that takes little room on the disk: its batches' masked texts are zeros,
-which a reader never opens, since a later content stands in their place."""
+"""A store of as many bytes as one may have, in a file that takes little room on the disk: its batches' masked texts are zeros, which a reader
+never opens, since a later content stands in their place."""
 import os
 
 from key_step import REWRITE
@@ -12,11 +12,11 @@ MORE = bytes(1 << 13)
 
 
 class FullStore(Writer):
-    """A store with a folder, a file in it, and that file written over and over, so that the log ends at this place."""
+    """A store with a folder, a file in it, what these lines make, and that file written over and over, so that the log ends at this place."""
 
-    def __init__(self, folder, end):
-        super().__init__(SEED, 1)
-        self.session(MORE, ["mkdir /a", "write /a/x 00"])
+    def __init__(self, folder, end, version=1, lines=()):
+        super().__init__(SEED, version)
+        self.session(MORE, ["mkdir /a", "write /a/x 00", *lines])
         self.path, small = os.path.join(folder, "full"), FRAME + REWRITTEN + 1
         with open(self.path, "wb") as self.file:
             self.file.write(self.image)

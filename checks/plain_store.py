@@ -4,15 +4,19 @@ UNSEEN = 16, b"", b"cryptree: unseen\n"
 
 
 class PlainStore:
-    """A store as its users see it: the bytes of each file by its path, None for a folder, and the grants."""
+    """A store as its users see it: the bytes of each file by its path, None for a folder, how many holders were made, and the grants."""
 
     def __init__(self):
-        self.nodes, self.grants = {b"/": None}, set()
+        self.nodes, self.holders, self.grants = {b"/": None}, 0, set()
 
     def done(self, line):
-        """Follows a line that was answered with ok."""
+        """Follows a line that wasn't refused."""
         word, *fields = line.split(b" ")
-        if word in (b"mkdir", b"write"):
+        if word in (b"holder", b"replace"):
+            self.holders += 1
+        if word == b"replace":
+            self.grants = {(self.holders if holder == int(fields[0]) else holder, path) for holder, path in self.grants}
+        elif word in (b"mkdir", b"write"):
             self.nodes[fields[0]] = bytes.fromhex(b"".join(fields[1:]).decode()) if word == b"write" else None
         elif word == b"rm":
             del self.nodes[fields[0]]
@@ -43,6 +47,8 @@ class PlainStore:
         return lines
 
     def answers(self, holder, asked):
+        if holder > self.holders:
+            return [(15, b"", b"cryptree: no holder, %d known\n" % self.holders) for _ in asked]
         lines = self.view(holder)
         whole = b"".join(lines[path] for path in sorted(lines))
         return [(0, whole, b"") if path is None else (0, lines[path], b"") if path in lines else UNSEEN for path in asked]

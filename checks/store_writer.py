@@ -1,6 +1,6 @@
 """Writes a store of either version as docs/FORMAT.md says it, from given random bytes: a second writer beside the one that is proved, for
-the values of docs/vectors.json, and for stores that the program reads and doesn't make. It takes accepted commands alone, and shares the
-key step and the sealing with store_reader.py.
+the values of docs/vectors.json, and for stores that the program reads and doesn't make. It takes accepted commands alone, and the
+replacement of any holder, and shares the key step and the sealing with store_reader.py.
 """
 from collections import namedtuple
 
@@ -57,13 +57,12 @@ class Writer:
         return pieces
 
     def session(self, random, lines):
-        """Applies these lines in a session of their own, and gives the replies. The random bytes are those of this session."""
+        """Applies these lines in a session of their own, and gives the replies, those to one line in one text. The random bytes are those of
+        this session."""
         self.random, self.begun = bytes(random), False
         return [self.apply(line) for line in lines]
 
     def apply(self, line):
-        if not self.begun:
-            self.begin_epoch()
         word, *fields = line.split(" ")
         fields = [field.encode() for field in fields]
         return getattr(self, word)(line, *fields)
@@ -110,6 +109,18 @@ class Writer:
     def revoke(self, line, number, path):
         return self.publish(line, TAKE, [int(number), granted_number(self.find(path))])
 
+    def replace(self, line, number):
+        """A new holder, then all grants of the old one to it, and then the same taken back: by the numbers of what is granted, which no path
+        is asked for."""
+        old = int(number)
+        if not 1 <= old <= len(self.state.checks):
+            return "refused no-holder"
+        granted = sorted(node for holder, node in self.state.grants if holder == old)
+        replies, new = [self.holder(line)], len(self.state.checks)
+        for code, holder in ((GIVE, new), (TAKE, old)):
+            replies += [self.publish(line, code, [holder, node]) for node in granted]
+        return "\n".join(replies)
+
     def upgrade(self, line):
         """No line of the program's, but a command of its own, in a session of its own."""
         return self.publish(line, UPGRADE, [])
@@ -141,7 +152,9 @@ class Writer:
         self.append(EPOCH, b"")
 
     def publish(self, line, code, fields):
-        """The command's step, with its keys drawn, and its batch."""
+        """The command's step, with its keys drawn, and its batch, behind the session's first one."""
+        if not self.begun:
+            self.begin_epoch()
         given, heads = self.state.take(code, fields)
         keys = self.drawn(len(given))
         self.keys.update(zip(given, keys))

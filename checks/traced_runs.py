@@ -29,9 +29,10 @@ NONE, WHOLE, FAULT = "none", "whole", "fault"
 
 # what a run begins with: its words, what is typed, the store's bytes (None where it is missing), the random bytes or another source's path;
 # what is due: how it ends, by a name of SAYS with numbers or by a status and a line, what is done in which order before that is said, how
-# far the input is read (None: isn't asked); and what it runs under, a shell's words around it, other streams than files, and terminals
-Case = namedtuple("Case", "what words typed before random ends order takes under via input output terminals",
-                  defaults=(b"", None, b"", "done", (), NONE, None, None, None, None, ()))
+# far the input is read (None: isn't asked); and what it runs under, a shell's words around it, other streams than files, and terminals; how
+# many replies each line behind the first has, where it isn't one each
+Case = namedtuple("Case", "what words typed before random ends order takes under via input output terminals each",
+                  defaults=(b"", None, b"", "done", (), NONE, None, None, None, None, (), None))
 
 
 class Traced:
@@ -122,9 +123,10 @@ class Traced:
         return as_far and all(take.printed == self.printed_before(typed[:take.before].count(b"\n")) for take in takes)
 
     def printed_before(self, lines):
-        """How many bytes are due to be printed before more is read than so many whole lines: a reply to each but the first."""
+        """How many bytes are due to be printed before more is read than so many whole lines: the replies to each but the first."""
         replies = [deed[1] for deed in self.case.order if deed[0] == "printed"] if self.case.words[2] == "run" else []
-        return sum(map(len, replies[:max(0, lines - 1)]))
+        behind = max(0, lines - 1)
+        return sum(map(len, replies[:behind if self.case.each is None else sum(self.case.each[:behind])]))
 
     def differences(self):
         """What came otherwise than it was due, in a few words."""

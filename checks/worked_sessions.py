@@ -51,8 +51,9 @@ DEPARTURE = """
 """
 DEPARTURE_VIEWS = "folder / | folder /a | folder /b | file /b/x 00", "ancestor / | folder /a"
 
-SECOND_HOLDER = """
-        holder -> holder 2 fffefdfcfbfaf9f8f7f6f5f4f3f2f1f0efeeedecebeae9e8e7e6e5e4e3e2e1e0"""
+FIRST_DRAWN = "fffefdfcfbfaf9f8f7f6f5f4f3f2f1f0efeeedecebeae9e8e7e6e5e4e3e2e1e0"
+SECOND_HOLDER = f"""
+        holder -> holder 2 {FIRST_DRAWN}"""
 
 ROWS = (
     Row("tree and rename", "fresh", """
@@ -185,6 +186,30 @@ ROWS = (
      ("folder 2 1  | folder 4 2 a | file 5 1 x 00ff | folder 10 3 b | file 13 1 x 03 | file 14 1 y 03",
       "folder 2 1  | folder 4 2 a | file 5 1 x 00ff",
       "folder 2 1  | folder 4 2 a | file 5 1 x 00ff | folder 10 3 b | file 13 1 x 03 | file 14 1 y 03")),
+    Row("replaced", "grant", f"""
+        replace 1 -> holder 2 {FIRST_DRAWN}, ok, ok
+        replace 9 -> refused no-holder
+        replace 1 -> holder 3 bfbebdbcbbbab9b8b7b6b5b4b3b2b1b0afaeadacabaaa9a8a7a6a5a4a3a2a1a0
+     """, 96, 3804, {2: "de8e04a8bfba746514234c25830d4f27364c489acadb4b8cdf6a70b4ca3a66ba"},
+     ("folder / | folder /a | file /a/x 00ff", "", "ancestor / | folder /a | file /a/x 00ff", ""),
+     ("folder 2 1  | folder 4 2 a | file 5 1 x 00ff",) * 3 + ("",)),
+    Row("replaced, with files", "replaced", f"""
+        mkdir /b -> ok
+        write /b/y 01 -> ok
+        grant 2 /b/y -> ok
+        grant 2 /a/x -> ok
+        grant 1 /b/y -> ok
+        grant 2 /b -> ok
+        replace 2 -> holder 4 {FIRST_DRAWN}, ok, ok, ok, ok, ok, ok, ok, ok
+        write /a/x 02 -> ok
+        write /b/y 03 -> ok
+     """, 608, 11227, {2: None},
+     ("folder / | folder /a | file /a/x 02 | folder /b | file /b/y 03", "ancestor / | ancestor /b | file /b/y 03", "", "",
+      "ancestor / | folder /a | file /a/x 02 | folder /b | file /b/y 03"),
+     ("folder 2 1  | folder 4 2 a | file 5 1 x 00ff | folder 14 3 b | file 15 2 y 01 | file 29 1 x 02 | file 30 2 y 03",
+      "folder 2 1  | folder 4 2 a | file 5 1 x 00ff | folder 14 3 b | file 15 2 y 01 | file 30 2 y 03",
+      "folder 2 1  | folder 4 2 a | file 5 1 x 00ff | folder 14 3 b | file 15 2 y 01", "",
+      "folder 2 1  | folder 4 2 a | file 5 1 x 00ff | folder 14 3 b | file 15 2 y 01 | file 29 1 x 02 | file 30 2 y 03")),
 )
 
 
@@ -193,9 +218,14 @@ def digest(image):
 
 
 def session(text):
-    """The lines and the replies of a session that is written as `LINE -> REPLY` a line."""
-    pairs = [row.strip().split(" -> ") for row in text.strip().splitlines()]
-    return tuple("".join(part + "\n" for part in column).encode() for column in zip(*pairs))
+    """The lines and the replies of a session that is written as `LINE -> REPLY` a line, or `LINE -> REPLY, REPLY` and so on."""
+    lines, replies = zip(*[row.strip().split(" -> ") for row in text.strip().splitlines()])
+    return tuple("".join(part + "\n" for part in column).encode() for column in (lines, ", ".join(replies).split(", ")))
+
+
+def replies_to_each(text):
+    """How many replies each line of such a session has."""
+    return [row.count(", ") + 1 for row in text.strip().splitlines()]
 
 
 def rows(version):
