@@ -94,6 +94,13 @@ def replace(path, text):
     sync_folder(folder)
 
 
+def synced(path):
+    """A new file, open to be written, in which each piece outlasts a power cut once it's written, whoever writes it."""
+    file = open(os.open(path, os.O_WRONLY | os.O_CREAT | os.O_EXCL | os.O_SYNC, 0o600), "wb", buffering=0)
+    sync_folder(os.path.dirname(path))
+    return file
+
+
 def read(path):
     """The bytes of a file that only its owner can read."""
     with open(path, "rb") as file:

@@ -4,6 +4,7 @@ import re
 import shutil
 import subprocess
 
+from folder_store import private
 from folder_store.faults import (AlreadyNew, Damaged, Fault, Hostile, NeedsUpgrade, NoSpace, NotAStore, OlderCopy, Tampered, WrongKey,
                                  behind, forked)
 
@@ -34,7 +35,7 @@ def start(store, *command, **how):
     except UnicodeDecodeError:
         raise Fault(f"the store's path {store!r} isn't UTF-8, which the program asks for: rename it") from None
     return subprocess.Popen([find(), os.path.abspath(store), RANDOM, *command], bufsize=0, stderr=subprocess.PIPE,
-                            stdout=subprocess.PIPE, start_new_session=True, **how)
+                            start_new_session=True, **{"stdout": subprocess.PIPE} | how)
 
 
 def made(file, store):
@@ -70,6 +71,17 @@ def upgraded(store, owner_line, lock, head):
         raise fault(store, status, said, bool(printed))
     reply, _, last = printed.partition(b"\n")
     return reply.decode("ascii"), read_head(last)
+
+
+def replaced(store, owner_line, lock, head, number, place):
+    """Has a holder replaced in a store that goes on from a head. All that the program prints goes into a new file of this place, where each
+    reply stands before the next command is done. Gives the replies and the last head."""
+    with private.synced(place) as file, start(store, "run", head, stdin=subprocess.PIPE, stdout=file, pass_fds=(lock,)) as process:
+        _, said = process.communicate(f"{owner_line}\nreplace {number}\n".encode("ascii"))
+    *replies, last = private.read(place).splitlines(True) or [b""]
+    if process.returncode:
+        raise fault(store, process.returncode, said, bool(last))
+    return [reply.decode("ascii").rstrip("\n") for reply in replies], read_head(last)
 
 
 def asked(store, command, lock, typed=b""):

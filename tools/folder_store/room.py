@@ -8,7 +8,7 @@ LIMIT = 1_073_741_824     # bytes of a store
 WARNED_AT = 80          # in 100
 COMMAND = 2048          # bytes, more than a command is likely to take beside a file's bytes and the links of a departure
 OWN_LINKS = 4           # of a folder whose keys are renewed, beside those into what is in it and those from holders
-REVOCATION, LINK = 421, 98      # bytes of one, and for each grant that stays on its folder or file (docs/FORMAT.md)
+GRANT, REVOCATION, LINK = 225, 421, 98      # bytes of one on what has others, of one taken back, and for each that stays (docs/FORMAT.md)
 BESIDE = 1 << 20        # bytes kept back beside revocations, for grants that were made without this front end
 
 
@@ -50,6 +50,12 @@ def kept_back(store):
     """What revoking every grant takes, one after another."""
     on_folders = grants_on(store)
     return BESIDE + sum(REVOCATION * count + LINK * count * (count - 1) // 2 for count in on_folders.values())
+
+
+def of_replacement(store, granted):
+    """More bytes than it takes to replace a holder who is granted these: each grant is given to the new one, and taken back from the old."""
+    counts = grants_on(store)
+    return COMMAND + sum(GRANT + REVOCATION + LINK * counts[path] for path in granted)
 
 
 def left_in(store):

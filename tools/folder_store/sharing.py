@@ -2,12 +2,12 @@
 import json
 import os
 
-from folder_store import room
+from folder_store import replacing, room
 from folder_store import store as stores
 from folder_store.entry import opened
 from folder_store.faults import AlreadyNew, BadWords, Fault, Refused
 from folder_store.keys import checked_name, read_key
-from folder_store.names import HALF, PARTS, core_path
+from folder_store.names import HALF, PARTS, core_path, real_path
 from folder_store.private import NewFile
 from folder_store.who import granted_to
 
@@ -18,8 +18,9 @@ def add_commands(add):
     add("init", init, "makes a new store, and its owner's key in the key folder")
     add("adopt", adopt, "takes in a store that was made without this program, or whose key folder is gone, by the owner's key in --key")
     add("upgrade", upgrade, "makes a store of version 1, which can be read alone, one of version 2; its keys and grants stay")
-    words = add("holder", holder, "makes a holder, with a key file to hand over, or takes in one that has a key")
-    words.add_argument("what", metavar="add|adopt", choices=["add", "adopt"], help="adopt: the holder whose key is in --key FILE")
+    words = add("holder", holder, "makes a holder, with a key file to hand over, takes in one that has a key, or gives one a new key")
+    words.add_argument("what", metavar="add|adopt|replace", choices=["add", "adopt", "replace"],
+                       help="adopt: the holder whose key is in --key FILE; replace: the grants go over to a new key, and the old one has none")
     words.add_argument("name", metavar="NAME")
     words.add_argument("--to", metavar="FILE", help="where the key file goes (NAME.key in the key folder)")
     for name, function, text in (("grant", grant, "lets a holder read a folder and all below it, or a file alone"),
@@ -64,6 +65,8 @@ def upgrade(words):
 def holder(words):
     if words.what == "adopt":
         return adopt_holder(words)
+    if words.what == "replace":
+        return replace_holder(words)
     with opened(words, writes=True) as store:
         name, holders = new_name(store, words.name)
         place = os.path.abspath(words.to or store.keys.file(name + ".key"))
@@ -101,6 +104,15 @@ def adopt_holder(words):
         holders.add(name, key.number, granted)
     tell(words, f"{name} is holder {key.number}, with {len(granted)} grant{'s' * (len(granted) != 1)}; the key is in {place}",
          name=name, number=key.number, key=place, granted=granted)
+
+
+def replace_holder(words):
+    """Several people who share one key: one of them leaves, and the others get a new one."""
+    with opened(words, writes=True) as store:
+        number, granted, place = replacing.replaced(store, words.name, words.to)
+    tell(words, f"{words.name} is holder {number} now, with {len(granted)} grant{'s' * (len(granted) != 1)}, and the old key has none; hand "
+         f"the new one over to those who stay, by a way that nobody else reads: {place}",
+         name=words.name, number=number, key=place, granted=list(map(real_path, granted)))
 
 
 def made_now(store, place):

@@ -168,6 +168,18 @@ class Store:
                 self.ended(session)
         return replies
 
+    def see_that_are_done(self, lines, settled="ok"):
+        """Has the store do these lines, save those that it answers in these words, since they were done before. The record of grants doesn't
+        follow."""
+        session = self.begun(self.last.head)
+        try:
+            for done, line in enumerate(lines):
+                reply = session.say(line)
+                if reply not in ("ok", settled):
+                    raise Refused(line, reply, done)
+        finally:
+            self.ended(session)
+
     def publish(self):
         """Publishes the batch that a stop hit, if one did: an opening for writing does. Else what is planned by a reading, which doesn't show
         it, isn't what lines meet. A store of version 1 is opened too, though it takes no line."""
@@ -210,6 +222,21 @@ class Store:
             self.keep_what_is_left(failure, head)
         if reply != "ok":
             raise Refused("upgrade", reply, 0)
+
+    def replace(self, number, place):
+        """Replaces a holder, and gives how many grants went over to the new one. What is replied goes into a new file of this place."""
+        failure = head = None
+        self.last.mark()
+        try:
+            replies, head = program.replaced(self.path, self.owner.line, self.handle, self.last.head, number, place)
+        except Fault as cause:
+            failure = cause
+            raise
+        finally:
+            self.keep_what_is_left(failure, head)
+        if replies[-1].startswith("refused "):
+            raise Refused(f"replace {number}", replies[-1], len(replies) - 1)
+        return len(replies) // 2
 
 
 def opened(path, writes):
