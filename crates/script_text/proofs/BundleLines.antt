@@ -22,12 +22,12 @@ pub value_told : {E : Type 0} (r : Result (List ℕ) E) (key : List ℕ) → res
 value_told (Ok found) key is = ap Ok (same_Some found key is)
 value_told (Err e) key is = cc
 
-key_told : (field key : List ℕ) → key_of field ≡ Some key → IsKey field key
+pub key_told : (field key : List ℕ) → key_of field ≡ Some key → IsKey field key
 unfolding key_of
 key_told field key is = value_told (decode_sized field 32) key is
 
 -- a key that a field spells is found
-key_found : (field key : List ℕ) → IsKey field key → key_of field ≡ Some key
+pub key_found : (field key : List ℕ) → IsKey field key → key_of field ≡ Some key
 unfolding key_of
 key_found field key is = ap result_ok is
 

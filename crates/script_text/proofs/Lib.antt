@@ -9,3 +9,4 @@ pub mod Results
 pub mod LineEnds
 pub mod Gauges
 pub mod TaskLines
+pub mod TurnLines

@@ -5,3 +5,4 @@ pub mod Printing
 pub mod Reading
 pub mod SeenLines
 pub mod Tasks
+pub mod Seats

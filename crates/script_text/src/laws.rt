@@ -8,6 +8,7 @@ ghost use Rattle.cry_base.specs.Requests.{Request};
 ghost use Rattle.script_text.specs.Commands.{IsCommandLine, request_in};
 ghost use Rattle.script_text.specs.Printing.{owner_line};
 ghost use Rattle.script_text.specs.Reading.{IsBundleLine, bundle_of};
+ghost use Rattle.script_text.specs.Seats.{IsTurnLine, Turn, turn_in};
 ghost use Rattle.script_text.specs.Tasks.{IsTaskLine, Task, task_in};
 
 /// Law: the bundle that is read from a line is the one whose line it is.
@@ -40,4 +41,10 @@ pub fn commands_are_spelled()
 pub fn tasks_are_spelled()
     ensures one { (line : List ℕ) (one other : Task) → IsTaskLine line one → IsTaskLine line other → one ≡ other }
     ensures read { (line : List ℕ) (task : Task) → (task_in line ≡ Some task) ↔ IsTaskLine line task }
+{}
+
+/// Law: and with a line of `serve`.
+pub fn turns_are_spelled()
+    ensures one { (line : List ℕ) (one other : Turn) → IsTurnLine line one → IsTurnLine line other → one ≡ other }
+    ensures read { (line : List ℕ) (turn : Turn) → (turn_in line ≡ Some turn) ↔ IsTurnLine line turn }
 {}

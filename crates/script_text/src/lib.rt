@@ -11,6 +11,7 @@ mod hex_text;
 pub mod laws;
 mod printing;
 mod reading;
+mod seats;
 mod seen_lines;
 mod tasks;
 
@@ -20,5 +21,6 @@ pub use fault::LineFault;
 pub use head_lines::{print_head, print_node, read_node};
 pub use printing::{OWNER_LINE_LEN, print_line, print_owner, print_reply};
 pub use reading::{key_in, read_bundle};
+pub use seats::{SeatLine, SeatRefusal, SeatReply, TurnLine, print_seat_reply, read_turn};
 pub use seen_lines::print_seen;
 pub use tasks::{LineTask, read_task};
