@@ -12,8 +12,9 @@ use Rattle.commit_journal.specs.declared.placed.Body.{Body}
 use Rattle.commit_journal.specs.declared.placed.Body.TheVariants as bodies
 use Rattle.commit_journal.specs.Log.{PlainTurn, fits_epoch}
 use Rattle.commit_journal.specs.Logs.{IsInEpoch, AreInEpochs, epoch_behind}
-use Rattle.commit_journal.specs.Opening.{GoesOnIn, HasType, IsNextOf, IsTurnIn, IsTurnOf}
+use Rattle.commit_journal.specs.Opening.{EndsBehind, GoesOnIn, HasType, IsNextOf, IsTurnIn, IsTurnOf}
 use Rattle.commit_journal.specs.Placed.{PlainPlaced, plain_body, plain_placed}
+use Rattle.commit_journal.specs.Places.{HasSize, body_size}
 use Rattle.commit_journal.specs.Turns.{plain_turn}
 
 -- ---- the test of a head
@@ -48,6 +49,23 @@ turn_counts past head turn fits is =
 pub next_counts : (past : Past) (head : Head) (next : Option Turn) → fits_epoch past head ≡ true → IsNextOf past head next → GoesOnIn past next
 next_counts past head None fits is = tt
 next_counts past head (Some turn) fits is = turn_counts past head turn fits is
+
+-- ---- where a turn ends
+
+size_in : (two : Bool) (before_it epoch size type_byte : ℕ) (body : Body) → eqb type_byte 2 ≡ two →
+    cond two (eqb size 0 && eqb epoch (before_it + 1)) (eqb type_byte 1 && (nat_le 1 before_it && eqb epoch before_it)) ≡ true →
+    HasType type_byte body → HasSize size body → body_size (plain_body body) ≡ size
+size_in true before_it epoch size type_byte bodies.NewEpoch is fits type_is has =
+    sym (eqb-true size 0 (and_parts (eqb size 0) (eqb epoch (before_it + 1)) fits).0)
+size_in true before_it epoch size type_byte (bodies.Commands payload) is fits type_is has = absurd (type_is (eqb-true type_byte 2 is))
+size_in false before_it epoch size type_byte bodies.NewEpoch is fits type_is has = let two = eq-eqb type_byte 2 type_is in absurd (cc)
+size_in false before_it epoch size type_byte (bodies.Commands payload) is fits type_is has = has.1
+
+pub turn_ends : (past : Past) (head : Head) (next : Option Turn) → fits_epoch past head ≡ true → IsNextOf past head next → EndsBehind next
+turn_ends past head None fits is = tt
+turn_ends past head (Some turn) fits is =
+    let size = size_in (eqb head.type_byte 2) past.epoch.0 head.epoch.0 head.size head.type_byte turn.placed.body refl fits is.type_of is.size in
+    omega (arith, is.next, is.place, size)
 
 -- ---- the walk
 

@@ -1,6 +1,6 @@
 -- A log that is read batch by batch.
 use Rattle.std.proofs.Common.{◌≡◌, inl, inr, ℕ, zero, suc, ◌+◌, ◌-◌, ◌<◌, ◌≤◌, Bool, true, false, cond, eqb, List, [], ◌∷◌, ◌++◌, take, drop, length, get_or, Option, None, Some, Result, Ok, Err, refl, sym, ap, subst, ◌∙◌, arith, length-append}
-use Rattle.std.specs.Prelude.{nat_le, MatchResult, ◌⊎◌}
+use Rattle.std.specs.Prelude.{nat_le, slice_range, MatchResult, ◌⊎◌}
 use Rattle.std.proofs.Math.Seq.{get_or-append_seam}
 use Rattle.std.proofs.lemmas.Bool.Decides.{nat_tests}
 use Rattle.std.proofs.lemmas.List.{drop-drop, get_or_append_left}
@@ -19,12 +19,36 @@ use Rattle.commit_journal.specs.Logs.{AreInEpochs, IsInEpoch, epoch_behind, walk
 use Rattle.commit_journal.specs.Opening.{GoesOnTo, IsNextOf, IsNextTurn, IsTurnIn, IsTurnOf}
 use Rattle.commit_journal.specs.Placed.{PlainPlaced, plain_placed}
 use Rattle.commit_journal.specs.Readers.{again_turn, has_tag, is_published, read_turn}
-use Rattle.commit_journal.specs.Streaming.{LogState, AreStarts, IsReading, IsStart, ShowsGiven, again_at, log_in, next_in, nothing, start_of}
+use Rattle.commit_journal.specs.Streaming.{LogState, AreStarts, IsReading, IsStart, ShowsGiven, again_at, gate_before, log_in, next_in, nothing, start_of}
 use Rattle.commit_journal.proofs.Counted.{epoch_more}
 use Rattle.commit_journal.proofs.Followed.{and_then_ok}
 use Rattle.commit_journal.proofs.Stepped.{published_by, steps_end, steps_fail, steps_on}
 use Rattle.commit_journal.proofs.Walked.{before-before, before-end, before-fault}
 use Rattle.commit_journal.proofs.Walks.{Judges, walk_shut}
+
+-- ---- the gate that is read once more
+
+get_past : (s : List ℕ) (n : ℕ) → length s ≤ n → get_or s n 0 ≡ 0
+get_past [] n long = refl
+get_past (x ∷ s) zero long = absurd (omega (arith, long))
+get_past (x ∷ s) (suc n) long = get_past s n (omega (arith, long))
+
+pub gate_past : (s : List ℕ) (at : ℕ) → 1 ≤ at → length s < at → 0 ≡ gate_before s at
+unfolding gate_before
+gate_past s at from short = sym (get_past s (at - 1) (omega (arith, from, short)))
+
+one_of : (s : List ℕ) (n : ℕ) → n < length s → get_or (take 1 (drop n s)) 0 0 ≡ get_or s n 0
+one_of [] n within = absurd (omega (arith, within))
+one_of (x ∷ s) zero within = refl
+one_of (x ∷ s) (suc n) within = one_of s n (omega (arith, within))
+
+pub gate_read : (s buf : List ℕ) (at : ℕ) → 1 ≤ at → at ≤ length s → buf ≡ slice_range s (at - 1) (at - 1 + 1) → get_or buf 0 0 ≡ gate_before s at
+unfolding gate_before
+gate_read s buf at from within is =
+    let one : at - 1 + 1 - (at - 1) ≡ 1 = omega (arith, from) in
+    ap (λ b. get_or b 0 0) is
+    ∙ ap (λ k. get_or (take k (drop (at - 1) s)) 0 0) one
+    ∙ one_of s (at - 1) (omega (arith, from, within))
 
 -- ---- one turn of the code
 
@@ -143,7 +167,7 @@ again_of who past head batch turn is =
     let test = is_published_turn past head batch turn tag.1 in
     rw (tag.0, test) (some_ok _ turn (sym (published_by past head batch test) ∙ tag.1))
 
-again_shown : (who : Option (List ℕ)) (past : Past) (s : List ℕ) (turn : PlainTurn) → turn_by (read_turn who) past (drop past.at s) ≡ Ok (Some turn) →
+pub again_shown : (who : Option (List ℕ)) (past : Past) (s : List ℕ) (turn : PlainTurn) → turn_by (read_turn who) past (drop past.at s) ≡ Ok (Some turn) →
     and_then (again_at who past s) (λ t. Ok t.placed) ≡ Ok turn.placed
 unfolding turn_by again_at and_then
 again_shown who past s turn is =
@@ -194,6 +218,19 @@ starts_more : (n : ℕ) (starts : List Past) (past next : Past) → next.number 
     AreStarts n ((starts ++ past ∷ []) ++ next ∷ [])
 starts_more n [] past next number low high are = (are.0, are.1, are.2, (number ∙ ap (λ k. k + 1) are.0, low, high, tt))
 starts_more n (first ∷ starts) past next number low high are = (are.0, are.1, are.2, starts_more (n + 1) starts past next number low high are.3)
+
+-- the gate behind the last doesn't count
+starts_gated : (n : ℕ) (starts : List Past) (past : Past) (gate : ℕ) → AreStarts n (starts ++ past ∷ []) → AreStarts n (starts ++ (record past { gate = gate }) ∷ [])
+starts_gated n [] past gate are = (are.0, are.1, are.2, tt)
+starts_gated n (first ∷ starts) past gate are = (are.0, are.1, are.2, starts_gated (n + 1) starts past gate are.3)
+
+pub reading_gated : (given : List PlainPlaced) (starts : List Past) (past : Past) (gate : ℕ) → IsReading given starts past → IsReading given starts (record past { gate = gate })
+reading_gated given starts past gate reading = record {
+  count = reading.count;
+  places = starts_gated 0 starts past gate reading.places;
+  epochs = reading.epochs;
+  epoch = reading.epoch;
+}
 
 pub starts_at : (n i : ℕ) (starts more : List Past) → AreStarts n (starts ++ more) → i < length starts →
     let past = get_or starts i nothing in (header_len ≤ past.at) × (past.at ≤ most_store_bytes) × (past.number ≡ n + i)

@@ -18,7 +18,8 @@ use Rattle.commit_journal.specs.Answering.{Fault, Damaged, Tampered, and_then}
 use Rattle.commit_journal.specs.Log.{PlainTurn, fits_epoch, tag_due, tag_in, payload_in, body_of, placed_body, turn_of, head_at, start_at}
 use Rattle.commit_journal.specs.Journals.{JournalState}
 use Rattle.commit_journal.specs.Logs.{IsInEpoch}
-use Rattle.commit_journal.specs.Placed.{PlainPlaced, plain_log}
+use Rattle.commit_journal.specs.Placed.{PlainPlaced, plain_log, plain_placed}
+use Rattle.commit_journal.specs.Places.{HasSize, at_behind}
 use Rattle.commit_journal.specs.Turns.{plain_turn}
 
 -- the head of the batch behind an open gate, which ends within the store limit
@@ -157,6 +158,7 @@ pub record IsTurnOf (past : Past) (head : Head) (turn : Turn) : Type 0 where
   pub epoch : turn.past.epoch.0 ≡ head.epoch.0
   pub same_epoch : turn.placed.epoch.0 ≡ head.epoch.0
   pub type_of : HasType head.type_byte turn.placed.body
+  pub size : HasSize head.size turn.placed.body
 
 -- the turn of the next batch, which ends within so many bytes
 pub record IsNextTurn (past : Past) (size : ℕ) (turn : Turn) : Type 0 where
@@ -184,3 +186,8 @@ GoesOnTo past size (Some turn) = IsNextTurn past size turn
 abbrev pub GoesOnIn : Past → Option Turn → Type 0
 GoesOnIn past None = Unit {0}
 GoesOnIn past (Some turn) = IsTurnIn past (plain_turn turn)
+
+-- what is known behind the turn's batch is where it ends
+abbrev pub EndsBehind : Option Turn → Type 0
+EndsBehind None = Unit {0}
+EndsBehind (Some turn) = turn.past.at ≡ at_behind (plain_placed turn.placed)

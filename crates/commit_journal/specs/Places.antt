@@ -1,10 +1,13 @@
 -- Where the records of a payload stand. This project's own, docs/FORMAT.md, "Records" and "Notes and payloads".
 use Rattle.std.specs.Prelude.{◌≡◌, ℕ, ◌+◌, ◌*◌, ◌<◌, ◌≤◌, ◌^◌, length, take, Option, None, Some}
 use Rattle.std.specs.List.{sum_by}
+use Rattle.cry_base.specs.Layout.{back_len}
 use Rattle.cry_base.specs.Limits.{most_store_bytes}
 use Rattle.record_format.specs.Plain.{PlainPayload, plain_payload}
 use Rattle.record_format.specs.Sizes.{note_size, content_size, payload_size}
 use Rattle.record_format.specs.Spellable.{IsSpellable}
+use Rattle.commit_journal.specs.Placed as plain
+use Rattle.commit_journal.specs.Placed.{PlainBody, PlainPlaced}
 use Rattle.commit_journal.specs.declared.judge.Turn.{Turn}
 use Rattle.commit_journal.specs.declared.placed.Body.{Body}
 use Rattle.commit_journal.specs.declared.placed.Body.TheVariants.{Commands, NewEpoch}
@@ -61,3 +64,12 @@ pub record IsStanding (p : Placed) : Type 0 where
 abbrev pub TurnStands : Option Turn → Type 0
 TurnStands None = Unit {0}
 TurnStands (Some turn) = IsStanding turn.placed
+
+-- how many bytes a batch's payload has
+abbrev pub body_size : PlainBody → ℕ
+body_size (plain.Commands p) = payload_size p
+body_size plain.NewEpoch = 0
+
+-- where the batch behind this one begins
+abbrev pub at_behind : PlainPlaced → ℕ
+at_behind p = p.place + (back_len + body_size p.body)

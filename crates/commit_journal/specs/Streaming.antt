@@ -10,7 +10,7 @@ use Rattle.commit_journal.specs.Answering.{Fault, and_then}
 use Rattle.commit_journal.specs.Log.{PlainTurn, before, head_at}
 use Rattle.commit_journal.specs.Logs.{AreInEpochs, epoch_behind, walk_at, turn_by}
 use Rattle.commit_journal.specs.Placed.{PlainPlaced, plain_placed}
-use Rattle.commit_journal.specs.Places.{IsStanding}
+use Rattle.commit_journal.specs.Places.{IsStanding, at_behind}
 use Rattle.commit_journal.specs.Readers.{again_turn, read_turn}
 
 -- the owner's key that tests the log, if one does; the bytes before the first gate; the batches that were given so far; what was known
@@ -26,6 +26,14 @@ pub record LogState : Type 0 where
 -- what stands behind the batches that were given, in a file of these bytes: a batch, or the end of the log
 unfoldable pub next_in : LogState → List ℕ → Result (Option PlainTurn) Fault
 next_in log bytes = if log.past.gate == 1 then turn_by (read_turn log.owner) log.past (drop log.past.at bytes) else Ok None
+
+-- the gate before a place, as a file of these bytes has it: closed where the file ends before it
+unfoldable pub gate_before : List ℕ → ℕ → ℕ
+gate_before bytes at = get_or bytes (at - 1) 0
+
+-- the log with the gate behind its batches as a file of these bytes has it now
+unfoldable pub regated : LogState → List ℕ → LogState
+regated log bytes = record log { past = record log.past { gate = gate_before bytes log.past.at } }
 
 -- the whole log of a file, as far as it is known: the batches that were given, before those that stand behind them
 unfoldable pub log_in : LogState → List ℕ → Result (List PlainPlaced) Fault
@@ -61,6 +69,18 @@ abbrev pub given_turn : Past → Option Placed → Option PlainTurn
 given_turn past None = None
 given_turn past (Some p) = Some (record { placed = plain_placed p; past = past })
 
+-- what is known where a batch begins: the place, and the number and the epoch of the batch before
+abbrev pub IsAt : ℕ → ℕ → ℕ → Past → Type 0
+IsAt at number epoch past = (past.at ≡ at) × (past.number ≡ number) × (past.epoch.0 ≡ epoch)
+
+-- each batch that was given begins where the one before ends: so it was known before it, and so the last of what is known is behind all
+abbrev pub ArePlaced : ℕ → ℕ → ℕ → List PlainPlaced → List Past → Past → Type 0
+ArePlaced at number epoch [] [] past = IsAt at number epoch past
+ArePlaced at number epoch [] (start ∷ starts) past = ⊥
+ArePlaced at number epoch (p ∷ given) [] past = ⊥
+ArePlaced at number epoch (p ∷ given) (start ∷ starts) past =
+    IsAt at number epoch start × ArePlaced (at_behind p) p.batch p.epoch.0 given starts past
+
 -- one batch more was given, which ends within so many bytes
 pub record GivesOne (size : ℕ) (old : LogState) (p : Placed) (new : LogState) : Type 0 where
   pub owner : new.owner ≡ old.owner
@@ -70,6 +90,7 @@ pub record GivesOne (size : ℕ) (old : LogState) (p : Placed) (new : LogState) 
   pub batch : p.batch ≡ length old.given + 1
   pub place : p.place ≡ old.past.at + payload_offset
   pub stands : IsStanding p
+  pub behind : IsAt (at_behind (plain_placed p)) p.batch p.epoch.0 new.past
   pub ahead : old.past.at < new.past.at
   pub inside : new.past.at ≤ size
 

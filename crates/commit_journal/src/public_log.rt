@@ -20,7 +20,7 @@ ghost use Rattle.commit_journal.specs.Turns.{plain_option, plain_turn};
 use crate::given::Given;
 use crate::judge::{Turn, judge_again, judge_read};
 use crate::layout::{BATCH_LEN, FRONT_LEN, HEADER_LEN, MAGIC, OPEN};
-use crate::reading::{array_at, read_head};
+use crate::reading::{array_at, read_gate, read_head};
 use crate::{OpenFault, Past, Placed};
 use chacha_seal::{Key, LogKey, OwnerK, check_of};
 use cry_base::{Epoch, List};
@@ -100,6 +100,7 @@ fn read_turn<D: Disk>(
     ensures leaf { WhereTold (D.shown disk.old) (λ s. IfOk result (IsLeafAt leaf.new.items s past.now.at)) }
     ensures next { IfOk result (opening.GoesOnTo past.now (D.size_of disk.old)) }
     ensures in_epoch { IfOk result (opening.GoesOnIn past.now) }
+    ensures behind { IfOk result opening.EndsBehind }
     ensures stands { IfOk result TurnStands }
     ensures read_only { IsOnlyRead D.Disk disk.old disk.new }
     ensures counts { D.faults disk.old ≤ D.faults disk.new }
@@ -204,6 +205,7 @@ impl PublicLog {
             (λ s. IfErr result (λ fault. IsFault fault (readers.read_log (readers.key_bytes (option_copied owner.entry)) s))) }
         ensures fresh { IfOk result (λ log. (log.owner ≡ readers.key_bytes (option_copied owner.entry)) × (log.given ≡ [])
             × (log.starts ≡ [])) }
+        ensures start { IfOk result (λ log. streaming.IsAt header_len 0 0 log.past) }
         ensures front { WhereTold (D.shown disk.old) (λ s. IfOk result (λ log. log.front ≡ front_of s)) }
         ensures inside { IfOk result (λ log. log.past.at ≤ D.size_of disk.old) }
         ensures no_key { option_copied owner.entry ≡ None → result ≢ Err OpenFault.WrongKey }
@@ -277,6 +279,7 @@ impl PublicLog {
         ensures leaf { WhereTold (D.shown disk.old) (λ s. IfOk result (IsLeafAt leaf.new.items s self.now.past.at)) }
         ensures next { IfOk result (opening.GoesOnTo self.now.past (D.size_of disk.old)) }
         ensures in_epoch { IfOk result (opening.GoesOnIn self.now.past) }
+        ensures behind { IfOk result opening.EndsBehind }
         ensures stands { IfOk result TurnStands }
         ensures reading { streaming.IsReading self.now.given self.now.starts self.now.past }
         ensures no_key { result ≢ Err OpenFault.WrongKey }
@@ -340,6 +343,35 @@ impl PublicLog {
         let Turn { placed, past } = turn;
         self.go_on(&placed, past, leaf);
         Ok(Some(placed))
+    }
+
+    fn set_gate(&mut self, gate: u8)
+        ensures { self.new ≡ record self.old { past = record self.old.past { gate = gate } } }
+    {
+        self.past.gate = gate;
+    }
+
+    /// Reads the gate behind the batches that were given once more: whoever writes may have opened it since. The disk is never written, and
+    /// after a fault this log is unchanged. Behind it `next` goes by the gate that the file shows now.
+    pub fn reread_gate<D: Disk>(&mut self, disk: &mut D) -> Result<(), OpenFault>
+        ensures gate { OnOk result (WhereTold (D.shown disk.old) (λ s. self.new ≡ streaming.regated self.old s)) }
+        ensures rest { self.new ≡ record self.old { past = record self.old.past { gate = self.new.past.gate } } }
+        ensures unchanged { OnErr result (self.new ≡ self.old) }
+        ensures failed { IfErr result (λ fault. fault ≡ OpenFault.DiskFault) }
+        ensures read_only { IsOnlyRead D.Disk disk.old disk.new }
+        ensures counts { D.faults disk.old ≤ D.faults disk.new }
+        ensures disk_fault { result ≡ Err OpenFault.DiskFault → D.faults disk.old < D.faults disk.new }
+    {
+        let gate = read_gate(disk, &self.past)?;
+        self.set_gate(gate);
+        Ok(())
+    }
+
+    /// Forgets the last batch's bytes, and gives back what they took.
+    pub fn forget_leaf(&mut self, alloc: Global)
+        ensures { self.new ≡ record self.old { leaf = [] } }
+    {
+        self.leaf = Vec::new(alloc);
     }
 
     /// Reads a batch once more that `next` gave, by what [`PublicLog::past`] was before it, and makes its tests again, whatever the

@@ -1,16 +1,17 @@
 //! Reads the header of a store file, and the head of a batch. The file is never written.
-ghost use Rattle.std.specs.Prelude.{◌≡◌, ◌≢◌, ◌<◌, ◌≤◌, ◌+◌, ◌^◌, Err, drop, slice_index, slice_range, IfOk, OnOk};
+ghost use Rattle.std.specs.Prelude.{◌≡◌, ◌≢◌, ◌<◌, ◌≤◌, ◌+◌, ◌^◌, Err, drop, slice_index, slice_range, IfErr, IfOk, OnOk};
 ghost use Rattle.cry_base.specs.Layout.{batch_len, first_gate_offset, header_len, magic_len};
 ghost use Rattle.cry_base.specs.Limits.{most_store_bytes};
 ghost use Rattle.cry_io.specs.Told.{WhereTold};
 ghost use Rattle.commit_journal.specs.Answering.{Answers};
 ghost use Rattle.commit_journal.specs.Log as log;
 ghost use Rattle.commit_journal.specs.Opening as opening;
+ghost use Rattle.commit_journal.specs.Streaming.{gate_before};
 ghost use Rattle.cry_io.specs.Reading.{IsOnlyRead};
 
 use crate::OpenFault;
 use crate::head::{Head, head_of, is_batch};
-use crate::layout::{BATCH_LEN, HEAD_LEN, HEADER_LEN, MAGIC};
+use crate::layout::{BATCH_LEN, CLOSED, HEAD_LEN, HEADER_LEN, MAGIC};
 use crate::past::Past;
 use chacha_seal::{LogKey, check_of};
 use cry_base::Epoch;
@@ -91,4 +92,21 @@ pub(crate) fn read_head<D: Disk>(disk: &mut D, past: &Past) -> Result<Head, Open
         return Err(OpenFault::Damaged { at: past.at });
     }
     Ok(head)
+}
+
+/// The gate before the next batch, as the disk shows it now. Where the disk ends before it, it is closed.
+pub(crate) fn read_gate<D: Disk>(disk: &mut D, past: &Past) -> Result<u8, OpenFault>
+    requires behind { header_len ≤ past.now.at }
+    ensures gate { WhereTold (D.shown disk.old) (λ s. IfOk result (λ gate. gate ≡ gate_before s past.now.at)) }
+    ensures read_only { IsOnlyRead D.Disk disk.old disk.new }
+    ensures counts { D.faults disk.old ≤ D.faults disk.new }
+    ensures disk_fault { result ≡ Err OpenFault.DiskFault → D.faults disk.old < D.faults disk.new }
+    ensures failed { IfErr result (λ fault. fault ≡ OpenFault.DiskFault) }
+{
+    if disk.size() < past.at {
+        return Ok(CLOSED);
+    }
+    let mut gate = [CLOSED];
+    disk.read_at(past.at - 1, &mut gate)?;
+    Ok(gate[0])
 }

@@ -5,7 +5,7 @@ use Rattle.cry_base.specs.Layout.{batch_len}
 use Rattle.commit_journal.specs.Log.{head_at}
 use Rattle.commit_journal.specs.Logs.{turn_by}
 use Rattle.commit_journal.specs.Readers.{key_bytes, read_turn}
-use Rattle.commit_journal.proofs.Counted.{next_counts}
+use Rattle.commit_journal.proofs.Counted.{next_counts, turn_ends}
 use Rattle.commit_journal.proofs.Judged.{fault_first, filled}
 use Rattle.commit_journal.proofs.Stepped.{turn_is_by}
 use Rattle.commit_journal.proofs.Streamed.{goes_on_to}
@@ -64,3 +64,7 @@ returns-clause-next g c =
 pub returns-clause-in_epoch : goal.returns-clause-in_epoch
 returns-clause-in_epoch g c =
     IfOk-weaker c.judge_read.result _ _ (λ next is. next_counts c.args.past.now c.in_ok-head.head next c.in_ok-head.ensures.next.2 is) c.judge_read.ensures.turn
+
+pub returns-clause-behind : goal.returns-clause-behind
+returns-clause-behind g c =
+    IfOk-weaker c.judge_read.result _ _ (λ next is. turn_ends c.args.past.now c.in_ok-head.head next c.in_ok-head.ensures.next.2 is) c.judge_read.ensures.turn

@@ -2,9 +2,9 @@ use Rattle.std.proofs.Common.{◌≡◌, None, Some, Ok, ap, sym, subst, ◌∙�
 use Rattle.std.proofs.lemmas.Result.{err_from_is_err_and}
 use Rattle.commit_journal.specs.Leaves.{IsLeafAt, batch_at}
 use Rattle.commit_journal.specs.Logs.{AreInEpochs}
-use Rattle.commit_journal.specs.Opening.{GoesOnIn, GoesOnTo, IsNextTurn, IsTurnIn}
+use Rattle.commit_journal.specs.Opening.{EndsBehind, GoesOnIn, GoesOnTo, IsNextTurn, IsTurnIn}
 use Rattle.commit_journal.specs.Placed.{plain_placed}
-use Rattle.commit_journal.specs.Places.{TurnStands}
+use Rattle.commit_journal.specs.Places.{TurnStands, at_behind}
 use Rattle.commit_journal.specs.Turns.{plain_option, plain_turn}
 use Rattle.commit_journal.proofs.Streamed.{last_start, log_ends, log_fails, log_more, reading_more, shows_more}
 use Rattle.commit_journal.proofs.public_log.PublicLog.next.Goals as goal
@@ -51,6 +51,8 @@ returns-clause-gives g c =
     let reading = c.in_ok-turn.ensures.reading in
     let last = last_start 0 log.starts log.past reading.places in
     let past = ap (λ log. log.past.at) on in
+    let ends : turn.past.at ≡ at_behind (plain_placed turn.placed) = subst EndsBehind c.in-Some.is c.in_ok-turn.ensures.behind in
+    let here : IsTurnIn log.past (plain_turn turn) = subst (GoesOnIn log.past) c.in-Some.is c.in_ok-turn.ensures.in_epoch in
     record {
       owner = ap (λ log. log.owner) on;
       front = ap (λ log. log.front) on;
@@ -59,6 +61,7 @@ returns-clause-gives g c =
       batch = omega (arith, next.batch, last.2, reading.count);
       place = next.place;
       stands = subst TurnStands c.in-Some.is c.in_ok-turn.ensures.stands;
+      behind = (past ∙ ends, ap (λ log. log.past.number) on ∙ next.number ∙ sym next.batch, ap (λ log. log.past.epoch.0) on ∙ here.1);
       ahead = omega (arith, past, next.ahead);
       inside = omega (arith, past, next.inside);
     }
