@@ -1,14 +1,16 @@
 //! Reads a log to its end, and keeps of its batches what is asked for (docs/FORMAT.md, "Reading").
-ghost use Rattle.std.specs.Prelude.{◌≡◌, ◌≢◌, ◌<◌, ◌≤◌, [], Err, IfOk, List, option_copied};
+ghost use Rattle.std.specs.Prelude.{◌≡◌, ◌≢◌, ◌<◌, ◌≤◌, ℕ, [], Err, IfErr, IfOk, List, None, option_copied};
 ghost use Rattle.commit_journal.specs.Placed.{PlainPlaced};
 ghost use Rattle.commit_journal.specs.Places.{IsStanding};
 ghost use Rattle.commit_journal.specs.Readers as readers;
 ghost use Rattle.commit_journal.specs.Streaming.{IsReading, ShowsGiven};
 ghost use Rattle.commit_journal.specs.declared.past.Past.{Past as ThePast};
+ghost use Rattle.cry_base.specs.declared.client.Bundle.TheVariants.{Holder};
+ghost use Rattle.cry_base.specs.declared.ids.HolderId.{HolderId as TheHolderId};
 ghost use Rattle.cry_io.specs.Reading.{IsOnlyRead};
 ghost use Rattle.cry_io.specs.Told.{WhereTold};
 ghost use Rattle.holder_client.specs.Keeping.{ComesNext, ReadsOn, StartsOn};
-ghost use Rattle.log_visits.specs.Answering.{Answers};
+ghost use Rattle.log_visits.specs.Answering.{Answers, IsOfBytes};
 ghost use Rattle.log_visits.specs.Judging as spec;
 
 use chacha_seal::{Key, OwnerK};
@@ -61,7 +63,9 @@ fn read_batches<D: Disk, K: Keeps>(
     ensures starts { IfOk result (λ read. K.has_starts read.kept read.log.starts) }
     ensures reading { IfOk result (λ read. IsReading read.log.given read.log.starts read.log.past) }
     ensures shows { WhereTold (D.shown disk.old) (λ s. IfOk result (λ read. ShowsGiven read.log s)) }
+    ensures no_key { option_copied owner.entry ≡ None → result ≢ Err ClientFault.WrongKey }
     ensures seen { result ≢ Err ClientFault.Unseen }
+    ensures of_bytes { IfErr result IsOfBytes }
     ensures read_only { IsOnlyRead D.Disk disk.old disk.new }
     ensures counts { D.faults disk.old ≤ D.faults disk.new }
     ensures disk_fault { result ≡ Err ClientFault.DiskFault → D.faults disk.old < D.faults disk.new }
@@ -91,7 +95,9 @@ pub fn read_log<D: Disk, K: Keeps>(
     ensures starts { IfOk result (λ read. K.has_starts read.kept read.log.starts) }
     ensures reading { IfOk result (λ read. IsReading read.log.given read.log.starts read.log.past) }
     ensures shows { WhereTold (D.shown disk.old) (λ s. IfOk result (λ read. ShowsGiven read.log s)) }
+    ensures no_key { (h : TheHolderId) (key : List ℕ) → bundle.now ≡ Holder h key → result ≢ Err ClientFault.WrongKey }
     ensures seen { result ≢ Err ClientFault.Unseen }
+    ensures of_bytes { IfErr result IsOfBytes }
     ensures read_only { IsOnlyRead D.Disk disk.old disk.new }
     ensures counts { D.faults disk.old ≤ D.faults disk.new }
     ensures disk_fault { result ≡ Err ClientFault.DiskFault → D.faults disk.old < D.faults disk.new }

@@ -85,8 +85,8 @@ impl Reader {
     ) -> Result<List<Line>, ClientFault>
         requires read { HasRead self.now log.now.given }
         requires starts { HasStarts self.now log.now.starts }
-        requires shows { WhereTold (D.shown disk.old) (λ s. ShowsGiven log.now s) }
-        ensures answer { WhereTold (D.shown disk.old) (λ _. AnswersAs plain_view result (view_with bundle.now (Ok log.now.given))) }
+        ensures answer { WhereTold (D.shown disk.old)
+            (λ s. ShowsGiven log.now s → AnswersAs plain_view result (view_with bundle.now (Ok log.now.given))) }
         ensures seen { result ≢ Err ClientFault.Unseen }
         ensures read_only { IsOnlyRead D.Disk disk.old disk.new }
         ensures counts { D.faults disk.old ≤ D.faults disk.new }
