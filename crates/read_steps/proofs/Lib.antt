@@ -1,0 +1,3 @@
+pub mod NextOnes
+pub mod Placing
+pub mod Stepping

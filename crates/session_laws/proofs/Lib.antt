@@ -1,0 +1,10 @@
+pub mod LogsGrown
+pub mod FrontsRead
+pub mod SeatsForward
+pub mod HoldersStay
+pub mod SeatsShown
+pub mod WholeRead
+pub mod SessionsSeated
+pub mod KeysHonest
+pub mod RepliesPrinted
+pub mod SeatPlaces

@@ -1,0 +1,5 @@
+pub mod Fronts
+pub mod Seats
+pub mod Serving
+pub mod Answers
+pub mod Sessions
