@@ -34,7 +34,7 @@ use Rattle.store_owner.specs.Drawing.{AreKeys, IsFillFault, joined}
 use Rattle.store_owner.specs.Owned.{OwnerView}
 use Rattle.store_owner.specs.Planning.{IsDrafted, IsUnfit, planned_size, reply_for}
 use Rattle.store_owner.specs.Sound.{IsSound, granted_in, own_store}
-use Rattle.store_owner.specs.Taking.{FallsShort}
+use Rattle.store_owner.specs.Taking.{FallsShort, keys_planned}
 use Rattle.store_owner.specs.declared.apply_fault.ApplyFault.{ApplyFault}
 use Rattle.store_owner.specs.declared.apply_fault.ApplyFault.TheVariants as faults
 use Rattle.store_owner.specs.declared.change.Change.{Change}
@@ -127,16 +127,16 @@ reply_cases P done made declared.Upgrade drawn = done
 
 module _ (d : Deed) (old new : OwnerView) (before after was shows : Option (List ℕ)) where
   pub carried_acts : (result : Result Reply ApplyFault) (note : Declared) (drawn : List (List ℕ)) (carried : Type 0) → HasAnswer None d old → told_note note ≡ own_note old d
-      → AreKeys drawn → WhereBothTold before after (λ x y. x ≡ joined drawn ++ y) → IfErr result (λ fault. fault ≡ faults.DiskFault) → OnErr result (IsInterrupted d drawn old was shows)
+      → ((other : Stand) → IsSeenAs old.state other → length drawn ≡ keys_planned old other d) → AreKeys drawn → WhereBothTold before after (λ x y. x ≡ joined drawn ++ y) → IfErr result (λ fault. fault ≡ faults.DiskFault) → OnErr result (IsInterrupted d drawn old was shows)
       → IfOk result (λ reply. reply ≡ reply_for note drawn) → OnOk result carried → (carried → IsCarriedOut d drawn old new was shows) → Acts result d old new before after was shows
-  carried_acts (Ok reply) note drawn carried accepted noted sizes next fault left is done so =
+  carried_acts (Ok reply) note drawn carried accepted noted counted sizes next fault left is done so =
       let as_noted : reply_for note drawn ≡ note_reply (own_note old d) drawn = reply_told note drawn ∙ ap (λ (n : Note). note_reply n drawn) noted in
       subst (λ (r : Reply). Acts (Ok r) d old new before after was shows) (sym is)
       (reply_cases (λ r. WasDone d r old new before after was shows → Acts (Ok r) d old new before after was shows) (λ w. w) (λ holder key w. w) note drawn
       (record { accepted = accepted; drawn = drawn; next_bytes = next; reply_is = as_noted; carried_out = so done }))
-  carried_acts (Err why) note drawn carried accepted noted sizes next fault left is done so =
+  carried_acts (Err why) note drawn carried accepted noted counted sizes next fault left is done so =
       subst (λ (f : ApplyFault). Acts (Err f) d old new before after was shows) (sym fault)
-      (record { accepted = accepted; drawn = drawn; drawn_sizes = sizes; next_bytes = next; interrupted = left })
+      (record { accepted = accepted; drawn = drawn; drawn_count = counted; drawn_sizes = sizes; next_bytes = next; interrupted = left })
 
   pub undrawn_acts : (fault : ApplyFault) (keys : ℕ) → HasAnswer None d old → IsFillFault {T = Listed (List ℕ)} keys (Err fault)
       → ((left need : ℕ) → fault ≡ faults.RandomShort left need → FallsShort old d left need before after) → Acts (Err fault) d old new before after was shows

@@ -25,7 +25,7 @@ use Rattle.store_owner.specs.Deeds.{Deed, deed_note, deed_refusal}
 use Rattle.store_owner.specs.Drawing.{AreKeys, joined}
 use Rattle.store_owner.specs.Owned.{OwnerView}
 use Rattle.store_owner.specs.Sound.{own_store}
-use Rattle.store_owner.specs.Taking.{FallsShort}
+use Rattle.store_owner.specs.Taking.{FallsShort, keys_planned}
 use Rattle.store_owner.specs.declared.apply_fault.ApplyFault.{ApplyFault}
 use Rattle.store_owner.specs.declared.apply_fault.ApplyFault.TheVariants as faults
 
@@ -77,10 +77,11 @@ pub record WasDone (d : Deed) (reply : Reply) (old new : OwnerView) (left_before
   pub reply_is : reply ≡ note_reply (own_note old d) drawn
   pub carried_out : IsCarriedOut d drawn old new was shows
 
--- It was accepted, and drew its keys, and then the disk failed.
+-- It was accepted, and drew the keys of its plan, and then the disk failed.
 pub record WasInterrupted (d : Deed) (old : OwnerView) (left_before left_after was shows : Option (List ℕ)) : Type 0 where
   pub accepted : HasAnswer None d old
   pub drawn : List (List ℕ)
+  pub drawn_count : (other : Stand) → IsSeenAs old.state other → length drawn ≡ keys_planned old other d
   pub drawn_sizes : AreKeys drawn
   pub next_bytes : WhereBothTold left_before left_after (λ before after. before ≡ joined drawn ++ after)
   pub interrupted : IsInterrupted d drawn old was shows

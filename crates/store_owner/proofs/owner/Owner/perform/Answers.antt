@@ -223,8 +223,14 @@ returns-clause-acts g c =
     let was = g.D.Disk.shown c.args.disk.now in
     let shows = g.D.Disk.shown c.carry_out.new.disk in
     let store = c.sound_owners_keep_a_store.ensures.store o in
+    let filled : length c.in-Ok-fill.drawn.items ≡ c.in-Ok.keys = c.in-Ok-fill.ensures.count in
+    let count : c.in-Ok.keys ≡ length p.ready.skeleton.keys.items =
+    c.in-Ok.ensures ∙ ap length c.as_slice-count.ensures ∙ ap (λ (s : Skeleton). length s.keys.items) c.skeleton.ensures
+    in
     carried_acts r o new (g.R.Source.left c.args.random.now) (g.R.Source.left c.fill.new.random) was shows c.carry_out.result p.note drawn (IsCarriedOut r drawn mid new was shows)
-    planned.3 (planned.0.told (own_store o) (store_still (own_store o) o mid c.plan.ensures.room store)) (subst AreKeys (sym c.as_slice.ensures) c.in-Ok-fill.ensures.sizes)
+    planned.3 (planned.0.told (own_store o) (store_still (own_store o) o mid c.plan.ensures.room store))
+    (λ other seen. ap length c.as_slice.ensures ∙ filled ∙ count ∙ are_planned o mid r p c.plan.ensures.room store planned.0 other seen)
+    (subst AreKeys (sym c.as_slice.ensures) c.in-Ok-fill.ensures.sizes)
     (λ x y a b. c.in-Ok-fill.ensures.bytes x y a b ∙ ap (λ (d : List (List ℕ)). joined d ++ y) (sym c.as_slice.ensures)) c.carry_out.ensures.fault
     (on_err_weaker c.carry_out.result (λ h. interrupted_from r drawn o mid was shows c.plan.ensures.room h) c.carry_out.ensures.interrupted) c.carry_out.ensures.reply
     c.carry_out.ensures.done (λ h. carried_from r drawn o mid new was shows c.plan.ensures.room h)
