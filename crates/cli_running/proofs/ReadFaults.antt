@@ -20,10 +20,10 @@ use Rattle.store_owner.specs.declared.apply_fault.ApplyFault.{ApplyFault}
 use Rattle.store_owner.specs.declared.apply_fault.ApplyFault.TheVariants as faults
 
 -- what is held of a line that hasn't ended stands before what is left
-unended_lines : (state : LineState) (left : List ℕ) → IsUnended state → lines_ahead state left ≡ lines_of state.room (state.line ++ left)
+pub unended_lines : (state : LineState) (left : List ℕ) → IsUnended state → lines_ahead state left ≡ lines_of state.room (state.line ++ left)
 unended_lines state left unended = ap (λ (p : List ℕ). lines_of state.room (state.line ++ (p ++ left))) unended.all
 
-unended_bytes : (state : LineState) (left : List ℕ) → IsUnended state → bytes_ahead state left ≡ state.line ++ left
+pub unended_bytes : (state : LineState) (left : List ℕ) → IsUnended state → bytes_ahead state left ≡ state.line ++ left
 unended_bytes state left unended = ap (λ (p : List ℕ). state.line ++ (p ++ left)) unended.all
 
 module _ {X : Type 0} (Step : X → Request → Reply → X → Type 0) (Fails : X → Request → ApplyFault → X → Type 0) (Stand : X → ℕ → List Request → Type 0) (start end : X)

@@ -134,8 +134,9 @@ pub(crate) fn open_and_apply<S: Source, R: Source, D: Disk, W: Sink>(
     }
 }
 
-/// The owner's key that the first line hands in. Any other line is bad, and so is an empty input's first.
-pub(crate) fn first_owner<S: Source>(
+/// The owner's key that the first line hands in. Any other line is bad, and so is an empty input's first: `BadLine` comes with number 1.
+/// `ReadFault` tells that the input failed, and `OutOfMemory` that memory was wanting. Little is read past the line.
+pub fn first_owner<S: Source>(
     alloc: Global,
     reader: &mut LineReader,
     input: &mut S,

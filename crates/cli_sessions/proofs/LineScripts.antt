@@ -122,7 +122,7 @@ module _ (X : Type 0) (scene : X → Scene) (leaves : X → List ℕ → Type 0)
 
   module _ (Stand : X → ℕ → List Request → Type 0) (so : (x : X) (n : ℕ) (commands : List Request) → Stand x n commands → StandsIn (scene x).owner n commands) where
     -- what a line stands for where the owner is, it stands for in the journal
-    line_stands : (x : X) (at : Going) → IsScene limits key at (scene x) → (task : Task) (commands : List Request) → StandsFor Stand x task commands
+    pub line_stands : (x : X) (at : Going) → IsScene limits key at (scene x) → (task : Task) (commands : List Request) → StandsFor Stand x task commands
         → StandsThere at.journal task commands
     line_stands x at there (Does r) commands is = is
     line_stands x at there (Replaces n) commands is =
@@ -135,13 +135,13 @@ module _ (X : Type 0) (scene : X → Scene) (leaves : X → List ℕ → Type 0)
       abbrev behind : Going
       behind = with_draws before.at (joined more ++ rest)
 
-      drawn_so : There after.went.drawn rest ≡ There before.went.drawn (joined more ++ rest)
+      pub drawn_so : There after.went.drawn rest ≡ There before.went.drawn (joined more ++ rest)
       drawn_so = ap (λ keys. There keys rest) drawn ∙ ap (λ bytes. with_draws g bytes) (joined_more before.went.drawn more rest)
 
-      went_so : script_going limits (There after.went.drawn rest) asked ≡ behind
+      pub went_so : script_going limits (There after.went.drawn rest) asked ≡ behind
       went_so = ap (λ at. script_going limits at asked) drawn_so ∙ before.went.goes (joined more ++ rest)
 
-      replied_so : script_replies limits behind block ≡ some
+      pub replied_so : script_replies limits behind block ≡ some
       replied_so =
           let at : Going = There before.went.drawn (joined more ++ rest) in
           let all : script_replies limits at (asked ++ block) ≡ given ++ some =

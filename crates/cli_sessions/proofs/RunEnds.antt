@@ -49,7 +49,7 @@ still_told None before x same e = absurd (false≢true (same ∙ ap is_some e))
 end_at : (limits : Limits) (key : List ℕ) (g : Going) (x : Scene) → IsScene limits key g x → x.owner.journal.end ≡ length (image_of key g.journal) + 1
 end_at limits key g x stands = owner_end key g.journal x.owner stands.has_key stands.owner_is
 
-accepted_there : (limits : Limits) (key : List ℕ) (g : Going) (x : Scene) (r : Request) → IsScene limits key g x
+pub accepted_there : (limits : Limits) (key : List ℕ) (g : Going) (x : Scene) (r : Request) → IsScene limits key g x
     → answer (limits_in x.owner) g.journal x.owner.journal.has_epoch r ≡ None → answer limits g.journal g.begun r ≡ None
 accepted_there limits key g x r stands e =
     subst (λ (l : Limits). answer l g.journal g.begun r ≡ None) stands.has_limits (subst (λ b. answer (limits_in x.owner) g.journal b r ≡ None) stands.has_begun e)
