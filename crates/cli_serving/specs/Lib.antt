@@ -1,0 +1,10 @@
+pub mod Seating
+pub mod Turned
+pub mod Went
+pub mod Lines
+pub mod SeatAnswers
+pub mod TurnAnswers
+pub mod Taking
+pub mod Served
+pub mod Serves
+pub mod Promises
