@@ -8,7 +8,7 @@ use Rattle.head_tree.specs.declared.head.Head.{Head}
 use Rattle.script_text.specs.Reading.{key_of}
 use Rattle.cli_words.specs.declared.texts.TheConstants.{HELP, VERSION}
 use Rattle.cli_words.specs.declared.words.Form.{Form}
-use Rattle.cli_words.specs.declared.words.Form.TheVariants.{Make, Run, Upgrade, Open, Audit, Gen, Prove, Check, Help, Version}
+use Rattle.cli_words.specs.declared.words.Form.TheVariants.{Make, Run, Serve, Upgrade, Open, Audit, Gen, Prove, Check, Help, Version}
 use Rattle.cli_words.specs.declared.words.Form.TheVariants as forms
 
 -- the word is spelled by these bytes
@@ -26,9 +26,10 @@ abbrev pub command_form : Listed ℕ → Option Form
 command_form word =
     if is_word word (codes "make") then Some Make
     else (if is_word word (codes "run") then Some (Run None)
+    else (if is_word word (codes "serve") then Some Serve
     else (if is_word word (codes "upgrade") then Some (Upgrade None)
     else (if is_word word (codes "list") then Some (forms.List None) else (if is_word word (codes "audit") then Some (Audit None)
-    else (if is_word word (codes "head") then Some forms.Head else None)))))
+    else (if is_word word (codes "head") then Some forms.Head else None))))))
 
 -- the word spells this number in decimal digits, without a sign or leading zeros
 pub record IsNumber (word : List ℕ) (number : ℕ) : Type 0 where
@@ -127,6 +128,10 @@ AsksGen words seed count = form_of_words words ≡ Some (Gen seed count)
 -- the words ask for commands to be applied, to a store whose log goes on from this head where they name one
 abbrev pub AsksRun : List (Listed ℕ) → Option Head → Type 0
 AsksRun words head = form_of_words words ≡ Some (Run head)
+
+-- the words ask for commands to be applied, and for lines of readers' sessions between them
+abbrev pub IsServe : List (Listed ℕ) → Type 0
+IsServe words = form_of_words words ≡ Some Serve
 
 -- the words ask for a store to be made one of version 2, whose log goes on from this head where they name one
 abbrev pub AsksUpgrade : List (Listed ℕ) → Option Head → Type 0

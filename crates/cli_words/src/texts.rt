@@ -9,6 +9,9 @@ cryptree keeps shared folders in one store file, on a disk that nobody has to tr
                                     holder, mkdir PATH, write PATH HEX, rm PATH, rename PATH NAME, move PATH FOLDER,
                                     grant N PATH or revoke N PATH, PATH being a folder with all below it, or a file, and
                                     replace N, which gives those who share holder N's key a new one
+  cryptree STORE RANDOM serve       take turns with readers: answer the lines of run, and between them those of readers' sessions:
+                                    session N HEX64 begins one with holder N's key, and pins the batches that are there,
+                                    step S reads a batch more in session S, pin S pins anew, and show S prints what its key opens
   cryptree STORE RANDOM upgrade     make a store of version 1, which run refuses, one of version 2, in which what leaves a folder is
                                     closed at once; the owner's line is read from standard input, and readers need nothing new
   cryptree STORE RANDOM list        print what a key opens; the key's line is read from standard input: the owner's, as make

@@ -15,6 +15,8 @@ pub enum Form {
     Make,
     /// `STORE RANDOM run`, or with a head behind it
     Run { head: Option<Head> },
+    /// `STORE RANDOM serve`
+    Serve,
     /// `STORE RANDOM upgrade`, or with a head behind it
     Upgrade { head: Option<Head> },
     /// `STORE RANDOM list`, or with a head behind it
@@ -86,6 +88,8 @@ fn command_of(word: &Text) -> Option<Form>
         Some(Form::Make)
     } else if word.as_slice() == b"run".as_slice() {
         Some(Form::Run { head: None })
+    } else if word.as_slice() == b"serve".as_slice() {
+        Some(Form::Serve)
     } else if word.as_slice() == b"upgrade".as_slice() {
         Some(Form::Upgrade { head: None })
     } else if word.as_slice() == b"list".as_slice() {

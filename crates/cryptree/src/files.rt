@@ -21,7 +21,7 @@ impl Access {
     pub(crate) fn of(form: Form) -> Option<Access> {
         match form {
             Form::Make | Form::Gen { .. } => Some(Access::Make),
-            Form::Run { .. } | Form::Upgrade { .. } => Some(Access::Write),
+            Form::Run { .. } | Form::Serve | Form::Upgrade { .. } => Some(Access::Write),
             Form::List { .. } | Form::Open { .. } | Form::Audit { .. } => Some(Access::Read),
             Form::Head | Form::Prove { .. } => Some(Access::Read),
             Form::Check { .. } | Form::Help | Form::Version => None,

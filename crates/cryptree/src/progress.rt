@@ -7,7 +7,7 @@ use std::time::{Duration, Instant};
 /// The least time between two lines, in milliseconds.
 const PAUSE: u64 = 100;
 
-/// The batches before the first command: of `run` the session's own, of `gen` that of the root as well.
+/// The batches before the first command: of `run` and `serve` the session's own, of `gen` that of the root as well.
 pub(crate) fn pace_of(form: Option<Form>) -> Pace {
     Pace::behind(match form {
         Some(Form::Gen { .. }) => 2,
@@ -23,11 +23,11 @@ pub(crate) struct Progress<'a> {
 }
 
 impl Progress<'_> {
-    /// `None` where no line is to be shown: standard error is no terminal, or the replies of `run` are shown on one.
+    /// `None` where no line is to be shown: standard error is no terminal, or the replies of `run` or `serve` are shown on one.
     pub(crate) fn of(rt: &HostRuntime, form: Form) -> Option<Progress<'_>> {
         let is_silent = match form {
             Form::Gen { .. } => true,
-            Form::Run { .. } => !rt.stdout().is_terminal(),
+            Form::Run { .. } | Form::Serve => !rt.stdout().is_terminal(),
             _ => false,
         };
         if is_silent && rt.stderr().is_terminal() {

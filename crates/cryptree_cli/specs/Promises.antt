@@ -16,6 +16,7 @@ pub use Rattle.cli_making.specs.Promises.Make
 pub use Rattle.cli_reading.specs.Promises.Open
 pub use Rattle.cli_reading.specs.Promises.Reading
 pub use Rattle.cli_running.specs.Promises.Run
+pub use Rattle.cli_serving.specs.Promises.Serve
 pub use Rattle.cli_base.specs.Promises.Text
 pub use Rattle.cli_upgrading.specs.Promises.HeldUpgrade
 pub use Rattle.cli_upgrading.specs.Promises.Upgrade

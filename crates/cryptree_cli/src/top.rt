@@ -12,12 +12,13 @@ ghost use Rattle.cli_making.specs.Promises.Make.{MakeEnds};
 ghost use Rattle.cli_reading.specs.Promises.Open.{OpenEnds};
 ghost use Rattle.cli_running.specs.Promises.HeldRun.{HeldRunEnds};
 ghost use Rattle.cli_running.specs.Promises.Run.{RunEnds};
+ghost use Rattle.cli_serving.specs.Promises.Serve.{ServeEnds};
 ghost use Rattle.cli_base.specs.Promises.Text.{TextEnds};
 ghost use Rattle.cli_upgrading.specs.Promises.HeldUpgrade.{HeldUpgradeEnds};
 ghost use Rattle.cli_upgrading.specs.Promises.Upgrade.{UpgradeEnds};
 ghost use Rattle.cli_base.specs.World.{senses_of, world_of};
 ghost use Rattle.head_tree.specs.declared.head.Head.{Head};
-ghost use Rattle.cli_words.specs.Words.{AsksAudit, AsksCheck, AsksGen, AsksList, AsksOpen, AsksProof, AsksRun, IsHead, IsMake};
+ghost use Rattle.cli_words.specs.Words.{AsksAudit, AsksCheck, AsksGen, AsksList, AsksOpen, AsksProof, AsksRun, IsHead, IsMake, IsServe};
 ghost use Rattle.cli_words.specs.Words.{AsksUpgrade};
 ghost use Rattle.cli_words.specs.Words.{form_of_words, path_in_words, text_of};
 
@@ -33,6 +34,7 @@ use cli_reading::open::Opening;
 use cli_reading::reading::read_and_print;
 use cli_running::held::run_held;
 use cli_running::run::run;
+use cli_serving::serve::serve;
 use cli_upgrading::held::upgrade_held;
 use cli_upgrading::upgrade::upgrade;
 use cli_words::texts::{HELP, VERSION};
@@ -47,6 +49,7 @@ use std::alloc::Global;
 /// Where two causes of an answer hold, the one met first is given; for `make`: words, size, memory, draw, disk, output; for `gen` the
 /// same, and before the output for each line of the script memory, draw, disk; for `run`: words, the first line, the head, the store,
 /// its version, and then for each line its form, memory, draw, disk, output, and behind them the store and the output for the last head;
+/// for `serve` as for `run` without a head, and for a line of a session its form, its refusal, memory, the store, output;
 /// for `upgrade`: words, the input, the head, the store, its version, memory, draw, disk, output, and behind it the store and the output
 /// for the last head; for `list`, `open` and `audit`: words, the input, the head, the store, output; for `head` and `prove`: words, the
 /// store, output; for `check`: words, the input, the proof, output.
@@ -73,6 +76,8 @@ pub fn top<S: Source, R: Source, D: Disk, W: Sink>(
         (world_of input.old random.old disk.old out.old) (world_of input.new random.new disk.new out.new) }
     ensures runs_held { (head : Head) → AsksRun words.now.items (Some head) → HeldRunEnds head (senses_of S.Source R.Source D.Disk W.Sink)
         result (world_of input.old random.old disk.old out.old) (world_of input.new random.new disk.new out.new) }
+    ensures serves { IsServe words.now.items → ServeEnds (senses_of S.Source R.Source D.Disk W.Sink) result
+        (world_of input.old random.old disk.old out.old) (world_of input.new random.new disk.new out.new) }
     ensures upgrades { AsksUpgrade words.now.items None → UpgradeEnds (senses_of S.Source R.Source D.Disk W.Sink) result
         (world_of input.old random.old disk.old out.old) (world_of input.new random.new disk.new out.new) }
     ensures upgrades_held { (head : Head) → AsksUpgrade words.now.items (Some head)
@@ -106,6 +111,7 @@ pub fn top<S: Source, R: Source, D: Disk, W: Sink>(
         Some(Form::Gen { seed, count }) => generate_store(alloc, seed, count, random, disk, out),
         Some(Form::Run { head: None }) => run(alloc, input, random, disk, out),
         Some(Form::Run { head: Some(head) }) => run_held(alloc, &head, input, random, disk, out),
+        Some(Form::Serve) => serve(alloc, input, random, disk, out),
         Some(Form::Upgrade { head: None }) => upgrade(alloc, input, random, disk, out),
         Some(Form::Upgrade { head: Some(head) }) => upgrade_held(
             alloc, &head, input, random, disk, out,
