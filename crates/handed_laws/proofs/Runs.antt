@@ -14,15 +14,16 @@ use Rattle.cli_base.specs.declared.status.Status.{Status}
 use Rattle.cli_base.specs.declared.status.Status.TheVariants as statuses
 use Rattle.cli_sessions.specs.Sessions.{Ends, HasRun, IsUnopened, LeavesAt, RanCut, RanTo, RanUnwritten, Seen, SessionOver, StopsApplying, version_limits}
 use Rattle.journal_bytes.specs.Keys.{AreWhole, drawn_by}
-use Rattle.journal_bytes.specs.Script.{answer, answer_with, due_end, journal_then, opened, script_going}
+use Rattle.journal_bytes.specs.Journals.{HoldsBetween}
+use Rattle.journal_bytes.specs.Script.{answer, answer_with, draws_of, due_end, journal_then}
 use Rattle.journal_bytes.proofs.NextValid.{next_valid, next_whole}
 use Rattle.public_fold.specs.Journal.{Entry, Journal, keys_of, nothing, stand_after, store_of}
 use Rattle.public_fold.specs.Journal.Entry.{Did, Made, Session, Upgraded}
 use Rattle.public_fold.specs.KeyStep.{is_strict}
 use Rattle.public_fold.specs.Valid.{BeginsWell, IsValid}
 use Rattle.public_fold.proofs.Prefixes.{prefix_valid}
-use Rattle.store_owner.specs.Drawing.{joined}
-use Rattle.stop_laws.proofs.Left.{front_grows}
+use Rattle.store_owner.specs.Drawing.{AreKeys}
+use Rattle.stop_laws.proofs.LeftByOwner.{session_begins}
 
 -- ---- journals that begin others
 
@@ -78,11 +79,6 @@ pub record Reaches (key : List ℕ) (m : Journal) (KeepsTo : Journal → Type 0)
   pub whole_keys : AreWhole key reached
   pub kept : KeepsTo reached
 
-session_begins : (m : Journal) (asked : List Request) (session : SessionOver version_limits m asked) → IsPrefix m session.now
-unfolding opened script_going
-session_begins m asked session =
-    subst (λ g. IsPrefix m g.journal) (session.goes []) (front_grows version_limits (opened m (joined session.drawn ++ [])) [] asked)
-
 module _ (key : List ℕ) (m : Journal) (m_valid : IsValid m) (lines : List InputLine) (seen : Seen) (may_leave : List ℕ → Type 0) (KeepsTo : Journal → Type 0) where
   abbrev Reached : Type 0
   Reached = Reaches key m KeepsTo
@@ -90,7 +86,7 @@ module _ (key : List ℕ) (m : Journal) (m_valid : IsValid m) (lines : List Inpu
   pub settled : (asked : List Request) (session : SessionOver version_limits m asked) → LeavesAt key m session.now seen may_leave → KeepsTo session.now → Reached
   settled asked session leaves kept =
       let whole = leaves.settled.shows.2 in
-      record { reached = session.now; longer = session_begins m asked session; valid = whole.valid; whole_keys = whole.whole_keys; kept = kept }
+      record { reached = session.now; longer = session_begins version_limits m asked session; valid = whole.valid; whole_keys = whole.whole_keys; kept = kept }
 
   ran : (rest : List InputLine) → HasRun version_limits key m lines rest seen may_leave KeepsTo → Reached
   ran rest run = settled run.asked run.session run.leaves run.kept
@@ -101,26 +97,32 @@ module _ (key : List ℕ) (m : Journal) (m_valid : IsValid m) (lines : List Inpu
   to_next : (to : RanTo version_limits m lines seen) → LeavesAt key m to.session.now seen may_leave → KeepsTo to.session.now → Reached
   to_next to leaves kept = settled to.asked to.session leaves kept
 
-  unwritten : RanUnwritten version_limits key m lines seen may_leave KeepsTo → Reached
-  unwritten run =
-      let session = run.ran.session in
+  -- the next command was accepted, and met a fault of the disk
+  pub next_reached : (asked : List Request) (session : SessionOver version_limits m asked) (next : Request) → answer version_limits session.now session.begun next ≡ None
+      → (last : List (List ℕ)) → length last ≡ draws_of session.now next → AreKeys last
+      → HoldsBetween key session.now (journal_then session.now session.begun next last) seen.shown may_leave → KeepsTo (journal_then session.now session.begun next last) → Reached
+  next_reached asked session next is_accepted last count sizes holds kept =
       let now = session.now in
-      let begins = session_begins m run.ran.asked session in
-      let at = run.holds.shows.2 in
+      let begins = session_begins version_limits m asked session in
+      let at = holds.shows.2 in
       let valid = front_valid m now at.held m_valid begins at.from at.stands_for.valid in
       let whole = front_whole key now at.held at.from at.stands_for.whole_keys in
-      let fine = not_refused now session.begun run.ran.next run.ran.is_accepted in
-      let then = journal_then now session.begun run.ran.next run.last in
+      let fine = not_refused now session.begun next is_accepted in
+      let then = journal_then now session.begun next last in
       let step = cond session.begun [] (Session ∷ []) in
       record {
         reached = then;
-        longer = prefix_trans m now then begins (step ++ Did run.ran.next run.last ∷ [], sym (append_assoc now step (Did run.ran.next run.last ∷ [])));
-        valid = next_valid now session.begun run.ran.next run.last most_file_bytes valid (omega arith) fine.0 run.last_count run.last_sizes fine.1;
-        whole_keys = next_whole key now session.begun run.ran.next run.last whole run.last_sizes;
-        kept = run.kept;
+        longer = prefix_trans m now then begins (step ++ Did next last ∷ [], sym (append_assoc now step (Did next last ∷ [])));
+        valid = next_valid now session.begun next last most_file_bytes valid (omega arith) fine.0 count sizes fine.1;
+        whole_keys = next_whole key now session.begun next last whole sizes;
+        kept = kept;
       }
 
-  unopened : AreWhole key m → IsUnopened key m seen KeepsTo → Reached
+  unwritten : RanUnwritten version_limits key m lines seen may_leave KeepsTo → Reached
+  unwritten run =
+      next_reached run.ran.asked run.ran.session run.ran.next run.ran.is_accepted run.last run.last_count run.last_sizes run.holds run.kept
+
+  pub unopened : AreWhole key m → IsUnopened key m seen KeepsTo → Reached
   unopened keys is = record { reached = m; longer = prefix_same m; valid = m_valid; whole_keys = keys; kept = is.kept }
 
   -- by what `run` says of its end

@@ -17,7 +17,7 @@ use Rattle.public_fold.specs.Journal.{Journal}
 use Rattle.secrecy_laws.proofs.Departed.{keeps_departures}
 use Rattle.secrecy_laws.proofs.Secrets.{keeps_secret, opens_by_gain}
 use Rattle.stop_laws.specs.Runs.{CallOver, IsLeft, Runs, WasShown}
-use Rattle.stop_laws.specs.Runs.CallOver.{ByOther, ByOwner, ByUpgrade}
+use Rattle.stop_laws.specs.Runs.CallOver.{ByOther, ByOwner, ByServe, ByUpgrade}
 use Rattle.stop_laws.proofs.Kept.{all_keep}
 use Rattle.stop_laws.proofs.Lasting.{never_lost}
 use Rattle.stop_laws.proofs.Left.{all_left, call_stands, left_between, left_of_runs}
@@ -26,6 +26,7 @@ use Rattle.handed_laws.specs.Unveiled.{CallUnveils, HasNoEmptyVeil, KeepsUnveile
 use Rattle.handed_laws.proofs.Handed.{run_shows}
 use Rattle.handed_laws.proofs.Publishing.{last_published}
 use Rattle.handed_laws.proofs.Runs.{Reaches, reached_by}
+use Rattle.handed_laws.proofs.Serves.{served_reached}
 use Rattle.handed_laws.proofs.Upgrades.{upgrade_reached}
 
 -- a journal with what a list published
@@ -83,6 +84,15 @@ module _ {D : Type 0} (disks : disk.Ghosts D)
       let to = reached_by key m stands.valid (lines_behind (lines_in run.typed)) seen (disks.may_leave after)
       (KeepsUpTo key m (disks.shown before) (disks.shown after) (disks.may_leave before) (disks.since after (disks.moment before)))
       stands.whole_keys run.status run.asked (run.ran key m run.hands_in (x, is, stands)) in
+      opened_unveils before after m x is stands to s left at
+  call_unveils before after runs (ByServe call) x s left is at =
+      let found = finds before runs x is in
+      let m = found.0 in
+      let stands = found.1 in
+      let seen = seen_from call.left_before call.left_after (disks.shown before) (disks.shown after) call.written_before call.written_after in
+      let to = served_reached key m stands.valid seen (disks.may_leave after)
+      (KeepsUpTo key m (disks.shown before) (disks.shown after) (disks.may_leave before) (disks.since after (disks.moment before)))
+      stands.whole_keys call.status call.turns call.asked (call.ran key m call.hands_in (x, is, stands)) in
       opened_unveils before after m x is stands to s left at
   call_unveils before after runs (ByUpgrade call) x s left is at =
       let found = finds before runs x is in

@@ -23,7 +23,7 @@ use Rattle.public_fold.specs.Journal.{Journal, keys_of}
 use Rattle.store_owner.specs.Published.{published_batches}
 use Rattle.store_owner.specs.Stopping.{journal_writes}
 use Rattle.stop_laws.specs.Runs.{CallOver}
-use Rattle.stop_laws.specs.Runs.CallOver.{ByOther, ByOwner, ByUpgrade}
+use Rattle.stop_laws.specs.Runs.CallOver.{ByOther, ByOwner, ByServe, ByUpgrade}
 
 -- So many of these writes were handed to the disk that showed the old list: all but the last were done, and that one in whole; or in part,
 -- where this is the list that was shown last.
@@ -53,19 +53,22 @@ ShowsJoined key m reached x shown s = (handed : ℕ)
     × IsHanded (shown ≡ Some s) handed (journal_writes key m reached) x s
     × IsPrefix (batches_of key m ++ unveiled_by handed (batches_behind key m reached)) (published_batches key s)
 
--- A list that is shown at a moment of a run or an upgrade, which found x, for m, and reached a journal. It is x with some slots filled that
--- a stop had left empty, or with all of these filled and batches joined behind m.
+-- A list that is shown at a moment of a run, a call of `serve` or an upgrade, which found x, for m, and reached a journal. It is x with
+-- some slots filled that a stop had left empty, or with all of these filled and batches joined behind m.
 abbrev pub ShowsUnveiled : List ℕ → Journal → Journal → List ℕ → Option (List ℕ) → List ℕ → Type 0
 ShowsUnveiled key m reached x shown s =
     IsStage (opening_writes most_store_bytes key x) x s
     ⊎ (((shown ≡ Some s) × IsTornStage (opening_writes most_store_bytes key x) x s)
     ⊎ ShowsJoined key m reached (all_written (opening_writes most_store_bytes key x) x) shown s)
 
--- So it is with each list that is shown at a moment of a run or an upgrade, up to a journal that begins with the one that was found.
--- Another call shows what it found.
+-- So it is with each list that is shown at a moment of such a call, up to a journal that begins with the one that was found. Another call
+-- shows what it found.
 abbrev pub CallUnveils : {D : Type 0} (disks : disk.Ghosts D) (key : List ℕ) (before after : D) → CallOver disks key before after
     → List ℕ → List ℕ → Type 0
 CallUnveils disks key before after (ByOwner run) x s =
+    (m reached : Journal) × StandsForJournal key m x × IsPrefix m reached
+    × (HasNoEmptyVeil key reached → ShowsUnveiled key m reached x (disks.shown after) s)
+CallUnveils disks key before after (ByServe call) x s =
     (m reached : Journal) × StandsForJournal key m x × IsPrefix m reached
     × (HasNoEmptyVeil key reached → ShowsUnveiled key m reached x (disks.shown after) s)
 CallUnveils disks key before after (ByUpgrade call) x s =

@@ -1,5 +1,5 @@
--- What a run or an upgrade made of the journal that it found, and what may be left of it.
-use Rattle.std.proofs.Common.{◌≡◌, ⊎_elim, ◌⊎◌, inl, inr, ℕ, Bool, true, false, List, [], ◌++◌, Option, append-nil, arith, refl, sym, subst}
+-- What a run, a call of `serve` or an upgrade made of the journal that it found, and what may be left of it.
+use Rattle.std.proofs.Common.{◌≡◌, ⊎_elim, ◌⊎◌, inl, inr, ℕ, Bool, true, false, List, [], ◌++◌, length, Option, None, append-nil, arith, refl, sym, subst}
 use Rattle.commit_journal.specs.Holding.{IsPrefix}
 use Rattle.commit_journal.proofs.KeptLemmas.{between_wider, prefix_same}
 use Rattle.cry_base.specs.Limits.{most_file_bytes}
@@ -14,11 +14,11 @@ use Rattle.public_fold.specs.Journal.{Journal}
 use Rattle.public_fold.specs.Valid.{IsValid}
 use Rattle.journal_bytes.specs.Journals.{HoldsBetween, StandsForJournal}
 use Rattle.journal_bytes.specs.Keys.{AreWhole}
-use Rattle.journal_bytes.specs.Script.{journal_then, opened}
+use Rattle.journal_bytes.specs.Script.{answer, draws_of, journal_then, opened}
 use Rattle.journal_bytes.specs.Upgrading.{upgraded_then}
 use Rattle.journal_bytes.proofs.NextUpgrade.{upgraded_valid}
 use Rattle.journal_bytes.proofs.NextValid.{next_valid, next_whole}
-use Rattle.store_owner.specs.Drawing.{joined}
+use Rattle.store_owner.specs.Drawing.{AreKeys, joined}
 use Rattle.handed_laws.proofs.Runs.{front_valid, front_whole, not_refused}
 use Rattle.handed_laws.proofs.Upgrades.{has_room, upgraded_whole}
 use Rattle.held_laws.proofs.Spending.{IsMade, made_by_script, made_next, made_upgraded}
@@ -62,30 +62,36 @@ module _ (key : List ℕ) (m : Journal) (m_valid : IsValid m) (lines : List Inpu
             (settled_holds_journal key now seen.shown may_leave leaves.settled));
       }
 
-  settled : (asked : List Request) (session : SessionOver version_limits m asked) → LeavesAt key m session.now seen may_leave → KeepsTo session.now → Here
+  pub settled : (asked : List Request) (session : SessionOver version_limits m asked) → LeavesAt key m session.now seen may_leave → KeepsTo session.now → Here
   settled asked session leaves kept = rests_at session.begun session.now (session_made m asked session) leaves kept
 
-  unwritten : RanUnwritten version_limits key m lines seen may_leave KeepsTo → Here
-  unwritten run =
-      let session = run.ran.session in
+  -- the next command was accepted, and met a fault of the disk
+  pub next_gone : (asked : List Request) (session : SessionOver version_limits m asked) (next : Request) → answer version_limits session.now session.begun next ≡ None
+      → (last : List (List ℕ)) → length last ≡ draws_of session.now next → AreKeys last
+      → HoldsBetween key session.now (journal_then session.now session.begun next last) seen.shown may_leave → KeepsTo (journal_then session.now session.begun next last) → Here
+  next_gone asked session next is_accepted last count sizes holds kept =
       let now = session.now in
-      let made = session_made m run.ran.asked session in
-      let then = journal_then now session.begun run.ran.next run.last in
-      let at = run.holds.shows.2 in
+      let made = session_made m asked session in
+      let then = journal_then now session.begun next last in
+      let at = holds.shows.2 in
       let valid = front_valid m now at.held m_valid (begins m session.begun now made) at.from at.stands_for.valid in
       let whole = front_whole key now at.held at.from at.stands_for.whole_keys in
-      let fine = not_refused now session.begun run.ran.next run.ran.is_accepted in
+      let fine = not_refused now session.begun next is_accepted in
       record {
         begun = true;
         reached = then;
-        made = made_next m session.begun now run.ran.next run.last made;
-        valid = next_valid now session.begun run.ran.next run.last most_file_bytes valid (omega arith) fine.0 run.last_count run.last_sizes fine.1;
-        whole_keys = next_whole key now session.begun run.ran.next run.last whole run.last_sizes;
-        kept = run.kept;
-        lasts = inr (between_wider (StandsForJournal key) now then m then seen.shown may_leave (begins m session.begun now made) (prefix_same then) run.holds);
+        made = made_next m session.begun now next last made;
+        valid = next_valid now session.begun next last most_file_bytes valid (omega arith) fine.0 count sizes fine.1;
+        whole_keys = next_whole key now session.begun next last whole sizes;
+        kept = kept;
+        lasts = inr (between_wider (StandsForJournal key) now then m then seen.shown may_leave (begins m session.begun now made) (prefix_same then) holds);
       }
 
-  unopened : AreWhole key m → KeepsTo m → Here
+  unwritten : RanUnwritten version_limits key m lines seen may_leave KeepsTo → Here
+  unwritten run =
+      next_gone run.ran.asked run.ran.session run.ran.next run.ran.is_accepted run.last run.last_count run.last_sizes run.holds run.kept
+
+  pub unopened : AreWhole key m → KeepsTo m → Here
   unopened keys kept =
       record { begun = false; reached = m; made = none_made m; valid = m_valid; whole_keys = keys; kept = kept; lasts = inl refl }
 

@@ -14,7 +14,7 @@ use Rattle.log_heads.specs.Published.{hashes_in}
 use Rattle.journal_bytes.specs.Journals.{StandsForJournal}
 use Rattle.public_fold.specs.Journal.{Journal}
 use Rattle.stop_laws.specs.Held.{HeldOver}
-use Rattle.stop_laws.specs.Runs.{LeavesStore, RunOver, UpgradeOver}
+use Rattle.stop_laws.specs.Runs.{LeavesStore, RunOver, ServeOver, UpgradeOver}
 use Rattle.stop_laws.proofs.HeldCalls.{held_run, held_upgrade, only_read, untouched}
 use Rattle.held_laws.specs.Held.{IsRunUnder}
 
@@ -30,7 +30,7 @@ module _ {S R D W : Type 0} (see : Senses S R D W)
     Under = IsRunUnder see.disks owner head named image left
 
     -- between two readings of the store
-    held_under : (Does : D → D → Type 0) → ((a b : D) → Does a b → RunOver see.disks owner a b ⊎ UpgradeOver see.disks owner a b)
+    held_under : (Does : D → D → Type 0) → ((a b : D) → Does a b → RunOver see.disks owner a b ⊎ (ServeOver see.disks owner a b ⊎ UpgradeOver see.disks owner a b))
         → IsHeld head (hashes_in image) → HeldOver see.disks Does before.disk after.disk → Under
     held_under Does as_call held over = (
       record {
@@ -69,6 +69,6 @@ module _ {S R D W : Type 0} (see : Senses S R D W)
         elim ends.ends [
           | inl input ↦ inl (untouched see counted present may_be_left head status before after before.disk after.disk (ap (λ world. world.disk) input.rest_kept))
           | inr (inl failed) ↦ inl (only_read see counted present may_be_left head status before after before.disk after.disk failed.reads)
-          | inr (inr behind) ↦ inr (held_under (UpgradeOver see.disks owner) (λ a b up. inr up) (behind.held image shows)
+          | inr (inr behind) ↦ inr (held_under (UpgradeOver see.disks owner) (λ a b up. inr (inr up)) (behind.held image shows)
               (held_upgrade see counted present may_be_left head status before after owner typed told hands behind))
         ]

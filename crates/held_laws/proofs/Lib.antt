@@ -2,6 +2,7 @@ pub mod Leaves
 pub mod Spending
 pub mod Masked
 pub mod Gone
+pub mod Serves
 pub mod OneRun
 pub mod Listed
 pub mod Settled

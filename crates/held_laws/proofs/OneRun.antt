@@ -33,11 +33,12 @@ use Rattle.attempt_laws.proofs.Epochs.{epoch_in, epoch_session}
 use Rattle.attempt_laws.proofs.Rising.{Rises, spent}
 use Rattle.attempt_laws.proofs.Written.{entered_is}
 use Rattle.stop_laws.proofs.Kept.{calm_stays}
-use Rattle.stop_laws.specs.Runs.{RunOver, UpgradeOver}
+use Rattle.stop_laws.specs.Runs.{RunOver, ServeOver, UpgradeOver}
 use Rattle.handed_laws.specs.Unveiled.{IsHanded, ShowsJoined, batches_behind, unveiled_by}
 use Rattle.handed_laws.proofs.Handed.{run_shows}
 use Rattle.held_laws.specs.Held.{HeldRun, IsTried, MakesNoEmptyVeil, trials_behind}
 use Rattle.held_laws.proofs.Gone.{Gone, gone_by, gone_by_upgrade}
+use Rattle.held_laws.proofs.Serves.{served_gone}
 use Rattle.cry_base.specs.Sets.{In}
 use Rattle.held_laws.proofs.Leaves.{LeavesLog, leaves_log}
 use Rattle.held_laws.proofs.Masked.{AllAgree, LiesBehind, begins_epoch, session_lies, trials_agree}
@@ -174,9 +175,14 @@ module _ {D : Type 0} (disks : disk.Ghosts D)
       (λ (r : RunOver disks key run.before run.after).
       gone_by key m run.stands_for.valid (lines_behind (lines_in r.typed)) (seen_from r.left_before r.left_after was shown r.written_before r.written_after) (disks.may_leave run.after)
       (KeepsUpTo key m was shown (disks.may_leave run.before) since) run.stands_for.whole_keys r.status r.asked (r.ran key m r.hands_in shows_found))
+      (λ other. ⊎_elim
+      (λ (v : ServeOver disks key run.before run.after).
+      served_gone key m run.stands_for.valid (seen_from v.left_before v.left_after was shown v.written_before v.written_after) (disks.may_leave run.after)
+      (KeepsUpTo key m was shown (disks.may_leave run.before) since) run.stands_for.whole_keys v.status v.turns v.asked (v.ran key m v.hands_in shows_found))
       (λ (u : UpgradeOver disks key run.before run.after).
       gone_by_upgrade key m run.stands_for.valid [] (seen_from u.left_before u.left_after was shown u.written_before u.written_after) (disks.may_leave run.after)
       (KeepsUpTo key m was shown (disks.may_leave run.before) since) run.stands_for.whole_keys u.status (u.ran key m u.hands_in shows_found))
+      other)
       run.call
 
   -- no stop takes back what was published
@@ -185,7 +191,10 @@ module _ {D : Type 0} (disks : disk.Ghosts D)
       let calm = calm_stays key was (disks.may_leave run.before) run.calm in
       ⊎_elim
       (λ (r : RunOver disks key run.before run.after). r.published key m r.hands_in shows_found calm)
+      (λ other. ⊎_elim
+      (λ (v : ServeOver disks key run.before run.after). v.published key m v.hands_in shows_found calm)
       (λ (u : UpgradeOver disks key run.before run.after). u.published key m u.hands_in shows_found calm)
+      other)
       run.call
 
   -- all that it made was handed over

@@ -1,11 +1,12 @@
 -- Runs and upgrades of one writer, each under a head that the writer took behind the one before. This project's own, docs/MODEL.md.
 --
--- An upgrade is told with the runs, as one of them. Each run may be handed another disk, also one with an older copy of the store, or with
--- what others wrote: the disks have nothing to do with one another. A run is told by what `run` promises, and an upgrade by what `upgrade`
--- does, over a disk that shows a journal of the writer's key and has nothing pending. A head was held over what it shows, before the store
--- was opened. The log that this head names begins with the log that the head before named, and with the log that the run before left: so it
--- is where the run printed its head, and where `check` accepts that another head goes on from there. A run that was stopped, or met a fault
--- of the disk, left what a stop might leave then; the next opening for writing fills the slots of that, and so they are filled here.
+-- An upgrade is told with the runs, as one of them, and so is a call of `serve`, before which the writer tested the head by another call.
+-- Each run may be handed another disk, also one with an older copy of the store, or with what others wrote: the disks have nothing to do
+-- with one another. A run is told by what `run` promises, and an upgrade by what `upgrade` does, over a disk that shows a journal of the
+-- writer's key and has nothing pending. A head was held over what it shows, before the store was opened. The log that this head names
+-- begins with the log that the head before named, and with the log that the run before left: so it is where the run printed its head, and
+-- where `check` accepts that another head goes on from there. A run that was stopped, or met a fault of the disk, left what a stop might
+-- leave then; the next opening for writing fills the slots of that, and so they are filled here.
 use Rattle.std.specs.Prelude.{◌≡◌, ◌≢◌, ◌⊎◌, ◌+◌, ℕ, List, [], ◌∷◌, ◌++◌, map, take, Some, Result, Ok}
 use Rattle.std.specs.List.{flat_map}
 use Rattle.chacha_seal.specs.Sealing.{veil_of}
@@ -24,13 +25,13 @@ use Rattle.journal_bytes.specs.Journals.{StandsForJournal}
 use Rattle.attempt_laws.specs.Spent.{Differ, all_spenders, number_of}
 use Rattle.attempt_laws.specs.Trials.{MaskOnePayload, Trial, attempt_of, trial_writes}
 use Rattle.cli_heads.specs.Testing.{IsHeld}
-use Rattle.stop_laws.specs.Runs.{RunOver, UpgradeOver}
+use Rattle.stop_laws.specs.Runs.{RunOver, ServeOver, UpgradeOver}
 
--- a run or an upgrade under a head, what it found, and what it left
+-- a run, a call of `serve` or an upgrade under a head, what it found, and what it left
 pub record HeldRun {D : Type 0} (disks : disk.Ghosts D) (key : List ℕ) : Type 0 where
   pub before : D
   pub after : D
-  pub call : RunOver disks key before after ⊎ UpgradeOver disks key before after
+  pub call : RunOver disks key before after ⊎ (ServeOver disks key before after ⊎ UpgradeOver disks key before after)
   -- what it was handed
   pub image : List ℕ
   pub shows : disks.shown before ≡ Some image

@@ -1,4 +1,4 @@
--- Calls of the program in a list of calls: those that aren't a run or an upgrade by the owner leave the store as it is.
+-- Calls of the program in a list of calls: those that aren't a run, a call of `serve` or an upgrade by the owner leave the store as it is.
 use Rattle.std.proofs.Common.{◌≡◌, ◌≤◌, ◌≢◌, ◌⊎◌, ⊎_elim, inl, inr, ℕ, Bool, true, false, List, [], length, take, drop, Some, None, Result, Ok, Err, arith, refl, sym, ap, subst, ◌∙◌}
 use Rattle.std.specs.Prelude.{IsTrue, codes, if◌then◌else◌, is_some, nat_le, slice_range, ◌++◌, ◌∷◌}
 use Rattle.std.specs.Str.{bytes_eq}
@@ -25,13 +25,14 @@ use Rattle.cli_making.specs.Promises.Gen.{GenEnds}
 use Rattle.cli_making.specs.Promises.Make.{MakeEnds}
 use Rattle.cli_running.specs.Promises.Run.{RunEnds}
 use Rattle.cli_running.specs.Running.{HandsInFirst, RunsOpened, RunsUnopened, key_in_lines, lines_in}
+use Rattle.cli_serving.specs.Promises.Serve.{ServeEnds, ServesOpened}
 use Rattle.cli_upgrading.specs.Promises.Upgrade.{UpgradeEnds}
 use Rattle.cli_upgrading.specs.Upgrading.{HandsInAlone, UpgradesOpened, UpgradesUnopened}
 use Rattle.cli_base.specs.Status.{is_before_write}
 use Rattle.cli_base.specs.World.{Senses, World}
 use Rattle.cli_base.specs.declared.status.Status.{Status}
 use Rattle.cli_base.specs.declared.status.Status.TheVariants as statuses
-use Rattle.cli_sessions.specs.Opening.{HasOpened, LeavesUnopened, WasTried}
+use Rattle.cli_sessions.specs.Opening.{HasOpened, LeavesUnopened, WasOpened, WasTried}
 use Rattle.cli_sessions.proofs.RunEnds.{still_told}
 use Rattle.cli_sessions.proofs.StopLemmas.{time_still}
 use Rattle.journal_bytes.specs.Bytes.{bodies_of}
@@ -41,7 +42,8 @@ use Rattle.log_visits.specs.Asking.Asking.{ToWrite}
 use Rattle.log_visits.specs.Judging.{OfBytes, of_bytes, read_through, then_on}
 use Rattle.public_fold.specs.Journal.{Journal}
 use Rattle.stop_laws.specs.Others.{IsByOther, IsUpgradeByOther}
-use Rattle.stop_laws.specs.Runs.{LeavesStore, RunOver, UpgradeOver}
+use Rattle.stop_laws.specs.Runs.{LeavesStore, RunOver, ServeOver, UpgradeOver}
+use Rattle.store_owner.specs.Owned.{OwnerView}
 use Rattle.store_owner.proofs.OpenedBehind.{within}
 
 -- ---- a key with another check
@@ -193,6 +195,25 @@ module _ {S R D W : Type 0} (see : Senses S R D W)
     published = run.published typed told;
   }
 
+  -- a call of `serve` by the owner
+  pub owner_serve : (owner typed : List ℕ) → see.inputs.left before.input ≡ Some typed → key_in_lines (lines_in typed) ≡ Some owner
+      → ServeEnds see status before after → ServeOver see.disks owner before.disk after.disk
+  owner_serve owner typed told hands call = record {
+    status = status;
+    typed = typed;
+    turns = call.turns;
+    asked = call.asked;
+    left_before = see.randoms.left before.random;
+    left_after = see.randoms.left after.random;
+    written_before = see.outs.written before.out;
+    written_after = see.outs.written after.out;
+    hands_in = hands;
+    lines = call.lines typed told;
+    later = call.later;
+    ran = call.served typed told;
+    published = call.published typed told;
+  }
+
   -- an upgrade by the owner
   pub owner_upgrade : (owner typed : List ℕ) → see.inputs.left before.input ≡ Some typed → HandsInAlone typed owner
       → UpgradeEnds see status before after → UpgradeOver see.disks owner before.disk after.disk
@@ -220,34 +241,47 @@ module _ {S R D W : Type 0} (see : Senses S R D W)
         (λ tried. tried_same see.disks counted present may_be_left before.disk after.disk status owner tried.0 m shows (other tried.0 (tried.1 typed told)) tried.2 s c at)
         left.store
 
-    never_opened : (refusal : Status) (version : ℕ) → HasOpened HandsIn refusal version see status before after → SameDisk
-    never_opened refusal version opened s c at =
+    never_opened : (key : List ℕ) → HandsIn typed key → (of : OwnerView) (opened : D) → WasOpened see.disks key of before.disk opened → SameDisk
+    never_opened key hands of opened opening s c at =
         let x = shows.0 in
-        let key = opened.key in
-        let wrong = other_opening owner key x (other key (opened.hands_in typed told)) most_store_bytes (whole_log owner (bodies_of owner m)) (opened_journal owner m x shows.2) in
-        let no : None ≡ Some (OfBytes WrongKey) = sym (opened.opening.passes x shows.1) ∙ refused_verdict key x wrong in
+        let wrong = other_opening owner key x (other key hands) most_store_bytes (whole_log owner (bodies_of owner m)) (opened_journal owner m x shows.2) in
+        let no : None ≡ Some (OfBytes WrongKey) = sym (opening.passes x shows.1) ∙ refused_verdict key x wrong in
         absurd cc
 
-    opening_leaves : (refusal : Status) (version : ℕ) → LeavesUnopened HandsIn see status before after ⊎ HasOpened HandsIn refusal version see status before after
+    opening_leaves : (Opened : Type 0) → (Opened → (key : List ℕ) × HandsIn typed key × (of : OwnerView) × (opened : D) × WasOpened see.disks key of before.disk opened)
+        → LeavesUnopened HandsIn see status before after ⊎ Opened
         → see.disks.moment before.disk ≤ see.disks.moment after.disk
         → GoesOn (see.disks.moment before.disk) (see.disks.since before.disk) (see.disks.since after.disk)
         → is_some (see.disks.shown after.disk) ≡ is_some (see.disks.shown before.disk) → LeavesDisk
-    opening_leaves refusal version opening later time stays_told =
+    opening_leaves Opened was opening later time stays_told =
         same_leaves see.disks counted present may_be_left before.disk after.disk shows.0 shows.1 later time stays_told
-        (λ s c at. ⊎_elim (λ left. unopened_same left s c at) (λ opened. never_opened refusal version opened s c at) opening)
+        (λ s c at. ⊎_elim (λ left. unopened_same left s c at) (λ opened. let it = was opened in never_opened it.0 it.1 it.2 it.3 it.4 s c at) opening)
+
+    has_opened : (refusal : Status) (version : ℕ) → HasOpened HandsIn refusal version see status before after
+        → (key : List ℕ) × HandsIn typed key × (of : OwnerView) × (opened : D) × WasOpened see.disks key of before.disk opened
+    has_opened refusal version is = (is.key, is.hands_in typed told, is.owner, is.opened, is.opening)
 
   module _ (owner : List ℕ) (m : Journal) (typed : List ℕ) (told : see.inputs.left before.input ≡ Some typed)
       (shows : ShowsJournal owner m (see.disks.shown before.disk)) where
     pub run_leaves_store : IsByOther owner typed → RunEnds see status before after
         → is_some (see.disks.shown after.disk) ≡ is_some (see.disks.shown before.disk) → LeavesDisk
     run_leaves_store other run stays_told =
-        opening_leaves HandsInFirst owner m typed told shows other statuses.NeedsUpgrade 2
+        opening_leaves HandsInFirst owner m typed told shows other (HasOpened HandsInFirst statuses.NeedsUpgrade 2 see status before after)
+        (has_opened HandsInFirst owner m typed told shows other statuses.NeedsUpgrade 2)
         (⊎_elim (λ (it : RunsUnopened see status run.asked run.answered before after). inl it.left) (λ (it : RunsOpened see status run.asked run.answered before after). inr it.opened) run.opening) run.later run.time stays_told
+
+    pub serve_leaves_store : IsByOther owner typed → ServeEnds see status before after
+        → is_some (see.disks.shown after.disk) ≡ is_some (see.disks.shown before.disk) → LeavesDisk
+    serve_leaves_store other call stays_told =
+        opening_leaves HandsInFirst owner m typed told shows other (ServesOpened see status call.turns call.asked before after)
+        (λ it. (it.key, it.hands_in typed told, it.owner, it.opened, it.opening))
+        (elim call.opening [ inl it ↦ inl it.0 | inr it ↦ inr it ]) call.later call.time stays_told
 
     pub upgrade_leaves_store : IsUpgradeByOther owner typed → UpgradeEnds see status before after
         → is_some (see.disks.shown after.disk) ≡ is_some (see.disks.shown before.disk) → LeavesDisk
     upgrade_leaves_store other call stays_told =
-        opening_leaves HandsInAlone owner m typed told shows other statuses.AlreadyNew 1
+        opening_leaves HandsInAlone owner m typed told shows other (HasOpened HandsInAlone statuses.AlreadyNew 1 see status before after)
+        (has_opened HandsInAlone owner m typed told shows other statuses.AlreadyNew 1)
         (⊎_elim (λ (it : UpgradesUnopened see status before after). inl it.left) (λ (it : UpgradesOpened see status before after). inr it.opened) call.opening) call.later call.time stays_told
 
   -- over a store that stands `make` and `gen` answer that the disk isn't blank

@@ -13,7 +13,7 @@ use Rattle.public_fold.specs.Journal.{Journal}
 use Rattle.store_owner.specs.Published.{HasPublished, StaysPublished, published_batches}
 use Rattle.store_owner.proofs.PublishedCommands.{published_front}
 use Rattle.stop_laws.specs.Runs.{CallOver, IsLeft, Runs}
-use Rattle.stop_laws.specs.Runs.CallOver.{ByOther, ByOwner, ByUpgrade}
+use Rattle.stop_laws.specs.Runs.CallOver.{ByOther, ByOwner, ByServe, ByUpgrade}
 use Rattle.stop_laws.specs.Runs.Runs.{Begun, Ran, StopsBehind, StopsIn}
 use Rattle.stop_laws.proofs.Left.{all_left, call_stands, left_between}
 
@@ -33,6 +33,7 @@ module _ {D : Type 0} (disks : disk.Ghosts D)
 
   call_later : (before after : D) → Call before after → disks.moment before ≤ disks.moment after
   call_later before after (ByOwner run) = run.later
+  call_later before after (ByServe call) = call.later
   call_later before after (ByUpgrade call) = call.later
   call_later before after (ByOther call) = call.later
 
@@ -46,6 +47,10 @@ module _ {D : Type 0} (disks : disk.Ghosts D)
       let at = held.shows.2 in
       let shows : ShowsJournal key at.held (disks.shown before) = (held.shows.0, held.shows.1, at.stands_for) in
       run.published key at.held run.hands_in shows stays
+  call_keeps before after l h held stays (ByServe call) =
+      let at = held.shows.2 in
+      let shows : ShowsJournal key at.held (disks.shown before) = (held.shows.0, held.shows.1, at.stands_for) in
+      call.published key at.held call.hands_in shows stays
   call_keeps before after l h held stays (ByUpgrade call) =
       let at = held.shows.2 in
       let shows : ShowsJournal key at.held (disks.shown before) = (held.shows.0, held.shows.1, at.stands_for) in

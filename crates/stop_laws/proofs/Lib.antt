@@ -3,5 +3,7 @@ pub mod HeldCalls
 pub mod Kept
 pub mod Lasting
 pub mod Left
+pub mod LeftByOwner
+pub mod LeftByServe
 pub mod Made
 pub mod Told

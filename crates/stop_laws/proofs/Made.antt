@@ -69,8 +69,7 @@ session_made m asked before after asks session stood = record {
 }
 
 -- and the one with its next command, where that is accepted and drew its keys
-module _ (m : Journal) (asked : List Request) (next : Request) (before after : List InputLine) (asks : Asks (asked ++ next ∷ []) before after)
-    (session : SessionOver version_limits m asked) (stood : Stood true version_limits m session.drawn asks) (accepted : answer version_limits session.now session.begun next ≡ None)
+module _ (m : Journal) (asked : List Request) (next : Request) (session : SessionOver version_limits m asked) (accepted : answer version_limits session.now session.begun next ≡ None)
     (last : List (List ℕ)) (count : length last ≡ draws_of session.now next) (sizes : AreKeys last) where
   abbrev then : List (List ℕ) → List ℕ → Going
   then keys draws = record { journal = journal_then session.now session.begun next keys; begun = true; draws = draws }
@@ -86,9 +85,17 @@ module _ (m : Journal) (asked : List Request) (next : Request) (before after : L
       let left : drop (32 * n) (joined last ++ draws) ≡ draws = ap (λ n. drop (32 * n) (joined last ++ draws)) (sym count) ∙ rest_again last draws sizes in
       ap (line_going (here (joined last ++ draws)) next) accepted ∙ ap (λ ks. then ks (drop (32 * n) (joined last ++ draws))) keys ∙ ap (then last) left
 
-  pub next_made : IsMadeOf m before (journal_then session.now session.begun next last)
+  pub next_goes : (draws : List ℕ) → script_going version_limits (opened m (joined session.drawn ++ (joined last ++ draws))) (asked ++ next ∷ [])
+      ≡ record { journal = journal_then session.now session.begun next last; begun = true; draws = draws }
   unfolding opened
-  next_made = record {
+  next_goes draws =
+      going_more version_limits (opened m (joined session.drawn ++ (joined last ++ draws))) asked next
+      ∙ ap (λ (at : Going). line_going at next (answer version_limits at.journal at.begun next)) (session.goes (joined last ++ draws))
+      ∙ line_made draws
+
+  pub next_made : (before after : List InputLine) (asks : Asks (asked ++ next ∷ []) before after) → Stood true version_limits m session.drawn asks
+      → IsMadeOf m before (journal_then session.now session.begun next last)
+  next_made before after asks stood = record {
     asked = asked ++ next ∷ [];
     rest = after;
     asks = asks;
@@ -98,9 +105,6 @@ module _ (m : Journal) (asked : List Request) (next : Request) (before after : L
     now = journal_then session.now session.begun next last;
     begun = true;
     goes = λ draws.
-        ap (λ bytes. script_going version_limits (opened m bytes) (asked ++ next ∷ [])) (joined_more session.drawn last draws)
-        ∙ going_more version_limits (opened m (joined session.drawn ++ (joined last ++ draws))) asked next
-        ∙ ap (λ (at : Going). line_going at next (answer version_limits at.journal at.begun next)) (session.goes (joined last ++ draws))
-        ∙ line_made draws;
+        ap (λ bytes. script_going version_limits (opened m bytes) (asked ++ next ∷ [])) (joined_more session.drawn last draws) ∙ next_goes draws;
     front = prefix_same (journal_then session.now session.begun next last);
   }

@@ -2,8 +2,8 @@
 -- project's own, docs/MODEL.md.
 --
 -- A run over a disk that shows a journal m adds an entry to m for each command that it accepts, with `Session` before the first one, and
--- adds no other. An upgrade that is accepted adds `Session` and its own entry. A stop may leave a front of what it made: then the next call
--- goes on from that front.
+-- adds no other; so does a call of `serve`. An upgrade that is accepted adds `Session` and its own entry. A stop may leave a front of what
+-- it made: then the next call goes on from that front.
 use Rattle.std.specs.Prelude.{◌≡◌, ◌⊎◌, ℕ, Bool, true, false, List, ◌++◌, length, None}
 use Rattle.commit_journal.specs.Holding.{IsPrefix}
 use Rattle.cry_base.specs.Requests.{Request}
@@ -18,8 +18,9 @@ use Rattle.journal_bytes.specs.Upgrading.{upgrade_answer, upgrade_draws, upgrade
 use Rattle.public_fold.specs.Journal.{Journal, keys_of}
 use Rattle.store_owner.specs.Drawing.{AreKeys, joined}
 use Rattle.stop_laws.specs.Runs.{HoldsAll, Runs}
-use Rattle.stop_laws.specs.Runs.CallOver.{ByOther, ByOwner, ByUpgrade}
+use Rattle.stop_laws.specs.Runs.CallOver.{ByOther, ByOwner, ByServe, ByUpgrade}
 use Rattle.stop_laws.specs.Runs.Runs.{Begun, Ran, StopsBehind, StopsIn}
+use Rattle.stop_laws.specs.Turns.{IsServedOf}
 
 -- The journal is what the first of these lines made of m, or a front of it: a session over m was asked their commands, one after another,
 -- and drew these keys, 32 bytes each, for those that it accepted. Each line's commands are those that it stood for where it came, the last
@@ -47,8 +48,8 @@ pub record IsUpgradeOf (m j : Journal) : Type 0 where
   pub drawn_sizes : AreKeys drawn
   pub front : IsPrefix j (upgraded_then m false drawn)
 
--- The journal comes of a first one by these runs: it is a front of the first one; or some run or upgrade, over a disk that showed a journal
--- which comes of the calls before it, made it of that journal.
+-- The journal comes of a first one by these runs: it is a front of the first one; or some run, call of `serve` or upgrade, over a disk that
+-- showed a journal which comes of the calls before it, made it of that journal.
 abbrev pub ComesOf : {D : Type 0} (disks : disk.Ghosts D) (key : List ℕ) (first : Journal) (start now : D) → Runs disks key start now
     → Journal → Type 0
 ComesOf disks key first start now Begun j = IsPrefix j first
@@ -56,6 +57,10 @@ ComesOf disks key first start now (Ran {before = before} {after = after} runs (B
     ComesOf disks key first start before runs j
     ⊎ ((m : Journal) × ComesOf disks key first start before runs m × ShowsJournal key m (disks.shown before)
     × IsMadeOf m (lines_behind (lines_in run.typed)) j)
+ComesOf disks key first start now (Ran {before = before} {after = after} runs (ByServe call)) j =
+    ComesOf disks key first start before runs j
+    ⊎ ((m : Journal) × ComesOf disks key first start before runs m × ShowsJournal key m (disks.shown before)
+    × IsServedOf m call.turns j)
 ComesOf disks key first start now (Ran {before = before} {after = after} runs (ByUpgrade call)) j =
     ComesOf disks key first start before runs j
     ⊎ ((m : Journal) × ComesOf disks key first start before runs m × ShowsJournal key m (disks.shown before) × IsUpgradeOf m j)
@@ -69,6 +74,10 @@ ComesOf disks key first start now (StopsIn {before = before} runs (ByOwner run) 
     ComesOf disks key first start before runs j
     ⊎ ((m : Journal) × ComesOf disks key first start before runs m × ShowsJournal key m (disks.shown before)
     × IsMadeOf m (lines_behind (lines_in run.typed)) j)
+ComesOf disks key first start now (StopsIn {before = before} runs (ByServe call) left is) j =
+    ComesOf disks key first start before runs j
+    ⊎ ((m : Journal) × ComesOf disks key first start before runs m × ShowsJournal key m (disks.shown before)
+    × IsServedOf m call.turns j)
 ComesOf disks key first start now (StopsIn {before = before} runs (ByUpgrade call) left is) j =
     ComesOf disks key first start before runs j
     ⊎ ((m : Journal) × ComesOf disks key first start before runs m × ShowsJournal key m (disks.shown before) × IsUpgradeOf m j)

@@ -1,4 +1,4 @@
--- Calls of the program that aren't a run or an upgrade by the store's owner. This project's own, docs/MODEL.md.
+-- Calls of the program that aren't a run, a call of `serve` or an upgrade by the store's owner. This project's own, docs/MODEL.md.
 use Rattle.std.specs.Prelude.{◌≡◌, ◌≢◌, List, ℕ, Some}
 use Rattle.chacha_seal.specs.Sealing.{check_of}
 use Rattle.cli_running.specs.Running.{key_in_lines, lines_in}

@@ -1,11 +1,12 @@
 -- Calls of the program over one store, one after another, with stops in and between them. This project's own, docs/MODEL.md.
 --
 -- A call is a run whose first line hands in the store's key, told by what `top` promises of it (`ran`, `published` and `later` of
--- `RunEnds`); or an upgrade whose one line does, told so too (`ran`, `printed`, `published` and `later` of `UpgradeEnds`); or it leaves the
--- store as it is, as other calls of the program do: laws say so of each. A call is over a disk as the call before left it, or as a stop
--- left it. A stop comes behind a call, or at any moment in one. It leaves bytes that the disk might leave then; the disk shows these, and
--- nothing is pending. A command or an upgrade was acknowledged where its whole reply line was taken. A run that met a stop at a moment in
--- it is told like one that met a fault of the disk then: the clause of its exit says what it had acknowledged.
+-- `RunEnds`); or a call of `serve` whose first line does, told so too (`lines`, `served`, `published` and `later` of `ServeEnds`); or an
+-- upgrade whose one line does (`ran`, `printed`, `published` and `later` of `UpgradeEnds`); or it leaves the store as it is, as other calls
+-- of the program do: laws say so of each. A call is over a disk as the call before left it, or as a stop left it. A stop comes behind a
+-- call, or at any moment in one. It leaves bytes that the disk might leave then; the disk shows these, and nothing is pending. A command or
+-- an upgrade was acknowledged where its whole reply line was taken. A run that met a stop at a moment in it is told like one that met a
+-- fault of the disk then: the clause of its exit says what it had acknowledged.
 use Rattle.std.specs.Prelude.{◌≡◌, ◌≤◌, ◌⊎◌, ℕ, true, List, Option, Some}
 use Rattle.batch_log.specs.Moments.{FromThenOn}
 use Rattle.commit_journal.specs.Holding.{GoesOn, IsPrefix}
@@ -17,7 +18,9 @@ use Rattle.cry_io.specs.declared.disk.Disk as disk
 use Rattle.cli_base.specs.Lines.{InputLine}
 use Rattle.cli_base.specs.Outside.{PrintsFront}
 use Rattle.cli_running.specs.Published.{PublishesTyped}
-use Rattle.cli_running.specs.Running.{EndsTyped, key_in_lines, lines_behind, lines_in}
+use Rattle.cli_running.specs.Running.{EndsTyped, key_in_lines, lines_behind, lines_in, lines_typed}
+use Rattle.cli_serving.specs.Lines.{BeginsLines}
+use Rattle.cli_serving.specs.Serves.{ServesTyped}
 use Rattle.cli_sessions.specs.Published.{PublishesFor}
 use Rattle.cli_sessions.specs.Sessions.{SessionOver, Stood, seen_from, version_limits}
 use Rattle.cli_sessions.specs.Script.{Asks, PrintsCut}
@@ -26,6 +29,8 @@ use Rattle.cli_base.specs.declared.status.Status.{Status}
 use Rattle.journal_bytes.specs.Journals.{ShowsJournal}
 use Rattle.public_fold.specs.Journal.{Journal}
 use Rattle.script_text.specs.Printing.{spell_reply}
+use Rattle.script_text.specs.Seats.{Turn}
+use Rattle.stop_laws.specs.Turns.{AnsweredTurns}
 use Rattle.store_owner.specs.Drawing.{AreKeys}
 
 -- a run over a disk, from what it was before to what it was after, whose first line hands in this owner's key
@@ -40,6 +45,24 @@ pub record RunOver {D : Type 0} (disks : disk.Ghosts D) (key : List ℕ) (before
   pub hands_in : key_in_lines (lines_in typed) ≡ Some key
   pub later : disks.moment before ≤ disks.moment after
   pub ran : EndsTyped status asked typed
+      (seen_from left_before left_after (disks.shown before) (disks.shown after) written_before written_after)
+      (disks.may_leave before) (disks.since after (disks.moment before)) (disks.may_leave after)
+  pub published : PublishesTyped typed (disks.shown before) (disks.may_leave before) (FromThenOn disks.moment disks.since before after)
+
+-- a call of `serve` over a disk, whose first line hands in this owner's key, and of whose other lines these were begun
+pub record ServeOver {D : Type 0} (disks : disk.Ghosts D) (key : List ℕ) (before after : D) : Type 0 where
+  pub status : Status
+  pub typed : List ℕ
+  pub turns : List Turn
+  pub asked : List Request
+  pub left_before : Option (List ℕ)
+  pub left_after : Option (List ℕ)
+  pub written_before : Option (List ℕ)
+  pub written_after : Option (List ℕ)
+  pub hands_in : key_in_lines (lines_in typed) ≡ Some key
+  pub lines : BeginsLines status turns (lines_typed typed)
+  pub later : disks.moment before ≤ disks.moment after
+  pub ran : ServesTyped status turns asked typed
       (seen_from left_before left_after (disks.shown before) (disks.shown after) written_before written_after)
       (disks.may_leave before) (disks.since after (disks.moment before)) (disks.may_leave after)
   pub published : PublishesTyped typed (disks.shown before) (disks.may_leave before) (FromThenOn disks.moment disks.since before after)
@@ -74,6 +97,7 @@ pub record LeavesStore {D : Type 0} (disks : disk.Ghosts D) (before after : D) :
 -- a call of the program over a disk
 pub data CallOver {D : Type 0} (disks : disk.Ghosts D) (key : List ℕ) (before after : D) : Type 0 where
   ByOwner : RunOver disks key before after → CallOver disks key before after
+  ByServe : ServeOver disks key before after → CallOver disks key before after
   ByUpgrade : UpgradeOver disks key before after → CallOver disks key before after
   ByOther : LeavesStore disks before after → CallOver disks key before after
 
@@ -108,6 +132,12 @@ HoldsRun key was typed written_before written_after j =
     (written_after ≡ written_before) ⊎ ((m : Journal) × ShowsJournal key m was
     × Answered m (lines_behind (lines_in typed)) written_before written_after j)
 
+-- a call of `serve` that printed this acknowledged no command; or the journal has each that it acknowledged
+abbrev pub HoldsTurns : List ℕ → Option (List ℕ) → List Turn → Option (List ℕ) → Option (List ℕ) → Journal → Type 0
+HoldsTurns key was turns written_before written_after j =
+    (written_after ≡ written_before) ⊎ ((m : Journal) × ShowsJournal key m was
+    × AnsweredTurns m turns written_before written_after j)
+
 -- The reply to an upgrade of m: all that was printed is this, or a front of it; and the journal begins with what the upgrade made of m. It
 -- was accepted and drew these keys, or the store was too full for it.
 pub record AnsweredUpgrade (m : Journal) (written_before written_after : Option (List ℕ)) (j : Journal) : Type 0 where
@@ -125,12 +155,15 @@ HoldsUpgrade key was written_before written_after j =
     WhereBothTold written_before written_after (λ before after. after ≡ before) ⊎ ((m : Journal) × ShowsJournal key m was
     × AnsweredUpgrade m written_before written_after j)
 
--- and so for all the owner's runs and upgrades that came to their end
+-- and so for all runs, calls of `serve` and upgrades of the owner's that came to their end
 abbrev pub HoldsAll : {D : Type 0} (disks : disk.Ghosts D) (key : List ℕ) (start now : D) → Runs disks key start now → Journal → Type 0
 HoldsAll disks key start now Begun j = Unit {0}
 HoldsAll disks key start now (Ran {before = before} {after = after} runs (ByOwner run)) j =
     HoldsAll disks key start before runs j
     × HoldsRun key (disks.shown before) run.typed run.written_before run.written_after j
+HoldsAll disks key start now (Ran {before = before} {after = after} runs (ByServe call)) j =
+    HoldsAll disks key start before runs j
+    × HoldsTurns key (disks.shown before) call.turns call.written_before call.written_after j
 HoldsAll disks key start now (Ran {before = before} {after = after} runs (ByUpgrade call)) j =
     HoldsAll disks key start before runs j
     × HoldsUpgrade key (disks.shown before) call.written_before call.written_after j

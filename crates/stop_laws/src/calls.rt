@@ -1,5 +1,5 @@
-//! Laws: what each call of the program is in a list of calls: a run or an upgrade by the store's owner, or one that leaves the store as it
-//! is.
+//! Laws: what each call of the program is in a list of calls: a run, a call of `serve` or an upgrade by the store's owner, or one that
+//! leaves the store as it is.
 ghost use Rattle.std.specs.Prelude.{◌≡◌, ℕ, List, Option, Some};
 ghost use Rattle.cli_base.specs.Promises.Any.{AnyEnds};
 ghost use Rattle.cli_reading.specs.Promises.Audit.{AuditEnds};
@@ -10,6 +10,7 @@ ghost use Rattle.cli_reading.specs.Promises.Open.{OpenEnds};
 ghost use Rattle.cli_running.specs.Promises.HeldRun.{HeldRunEnds};
 ghost use Rattle.cli_running.specs.Promises.Run.{RunEnds};
 ghost use Rattle.cli_running.specs.Running.{key_in_lines, lines_in};
+ghost use Rattle.cli_serving.specs.Promises.Serve.{ServeEnds};
 ghost use Rattle.cli_upgrading.specs.Promises.HeldUpgrade.{HeldUpgradeEnds};
 ghost use Rattle.cli_upgrading.specs.Promises.Upgrade.{UpgradeEnds};
 ghost use Rattle.cli_upgrading.specs.Upgrading.{HandsInAlone};
@@ -20,7 +21,7 @@ ghost use Rattle.journal_bytes.specs.Journals.{ShowsJournal};
 ghost use Rattle.public_fold.specs.Journal.{Journal};
 ghost use Rattle.stop_laws.specs.Held.{HeldCallOver, HeldUpgradeCallOver};
 ghost use Rattle.stop_laws.specs.Others.{IsByOther, IsUpgradeByOther};
-ghost use Rattle.stop_laws.specs.Runs.{IsLeft, LeavesStore, RunOver, Runs, UpgradeOver};
+ghost use Rattle.stop_laws.specs.Runs.{IsLeft, LeavesStore, RunOver, Runs, ServeOver, UpgradeOver};
 
 use cry_io::{Disk, Sink, Source};
 
@@ -36,6 +37,22 @@ pub fn runs_of_others_leave_the_store<S: Source, R: Source, D: Disk, W: Sink>()
     ensures { (owner : List ℕ) (m : Journal) (typed : List ℕ) (status : Status) (before after : World S R D W) →
         S.left before.input ≡ Some typed → ShowsJournal owner m (D.shown before.disk) → IsByOther owner typed →
         RunEnds (senses_of S.Source R.Source D.Disk W.Sink) status before after →
+        AnyEnds (senses_of S.Source R.Source D.Disk W.Sink) status before after → LeavesStore D.Disk before.disk after.disk }
+{}
+
+/// Law: a call of `serve` whose first line hands in the owner's key.
+pub fn serves_of_the_owner_are_told<S: Source, R: Source, D: Disk, W: Sink>()
+    ensures { (owner typed : List ℕ) (status : Status) (before after : World S R D W) →
+        S.left before.input ≡ Some typed → key_in_lines (lines_in typed) ≡ Some owner →
+        ServeEnds (senses_of S.Source R.Source D.Disk W.Sink) status before after → ServeOver D.Disk owner before.disk after.disk }
+{}
+
+/// Law: a call of `serve` whose first line hands in no key, or one with another check than the owner's, over a disk that shows the owner's
+/// journal.
+pub fn serves_of_others_leave_the_store<S: Source, R: Source, D: Disk, W: Sink>()
+    ensures { (owner : List ℕ) (m : Journal) (typed : List ℕ) (status : Status) (before after : World S R D W) →
+        S.left before.input ≡ Some typed → ShowsJournal owner m (D.shown before.disk) → IsByOther owner typed →
+        ServeEnds (senses_of S.Source R.Source D.Disk W.Sink) status before after →
         AnyEnds (senses_of S.Source R.Source D.Disk W.Sink) status before after → LeavesStore D.Disk before.disk after.disk }
 {}
 

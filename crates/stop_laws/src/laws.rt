@@ -33,7 +33,7 @@ pub fn told_upgrades_are_held()
 {}
 
 /// Law: over every list of calls and stops, whatever is left stands for a journal that begins with the first one, and with each
-/// command that any of the runs acknowledged, and each upgrade that was.
+/// command that any of the calls acknowledged, and each upgrade that was.
 pub fn stops_leave_what_was_acknowledged<D: Disk>(start: &D, now: &D)
     ensures { (key : List ℕ) (m1 m2 : Journal) → HoldsBetween key m1 m2 (D.shown start.now) (D.may_leave start.now) →
         (runs : Runs D.Disk key start.now now.now) →
@@ -42,7 +42,7 @@ pub fn stops_leave_what_was_acknowledged<D: Disk>(start: &D, now: &D)
 {}
 
 /// Law: over every list of calls and stops, whatever a stop leaves behind them stands for a journal of theirs: it begins with the first one
-/// and has each command that any of the runs acknowledged, and each upgrade that was; and it has nothing but commands and upgrades that
+/// and has each command that any of the calls acknowledged, and each upgrade that was; and it has nothing but commands and upgrades that
 /// were accepted, in their order.
 pub fn stops_leave_nothing_but_accepted_commands<D: Disk>(start: &D, now: &D)
     ensures { (key : List ℕ) (m1 m2 : Journal) → HoldsBetween key m1 m2 (D.shown start.now) (D.may_leave start.now) →
