@@ -67,14 +67,29 @@ def peak(words, typed, waits):
         if not waits:
             child.stdin.close()
         wait_until_it_sleeps(child.pid)
-        with open(f"/proc/{child.pid}/status") as file:
-            most = int(re.search(r"VmHWM:\s+(\d+) kB", file.read()).group(1)) * 1024
+        most = most_memory(child.pid)
         if not child.stdin.closed:
             child.stdin.close()
         while os.read(taken, 1 << 16):
             pass
     os.close(taken)
     return most
+
+
+def peak_of_lines(words, typed):
+    """The most memory that a command had, in bytes, when it has answered all of these lines and waits for more; what it prints goes nowhere."""
+    with subprocess.Popen(words, stdin=subprocess.PIPE, stdout=subprocess.DEVNULL) as child:
+        child.stdin.write(typed)
+        child.stdin.flush()
+        wait_until_it_sleeps(child.pid)
+        most = most_memory(child.pid)
+        child.stdin.close()
+    return most
+
+
+def most_memory(pid):
+    with open(f"/proc/{pid}/status") as file:
+        return int(re.search(r"VmHWM:\s+(\d+) kB", file.read()).group(1)) * 1024
 
 
 def held(words, typed):

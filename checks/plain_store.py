@@ -1,5 +1,8 @@
-"""A store as its users see it, kept from the lines alone that were done: what checks hold the program's answers against."""
+"""A store as its users see it, and the sessions of readers beside it, kept from the lines alone that were done: what checks hold the
+program's answers against."""
+import copy
 
+SESSIONS = 256  # how many sessions may be begun
 UNSEEN = 16, b"", b"cryptree: unseen\n"
 
 
@@ -57,3 +60,60 @@ class PlainStore:
 def is_below(path, above):
     """Whether a path is this one, or one below it."""
     return path == above or path.startswith(above.rstrip(b"/") + b"/")
+
+
+class PlainSeat:
+    """A reader's session: whose it is by what was typed, how many batches are pinned, and how many were read."""
+
+    def __init__(self, holder, key, pinned):
+        self.holder, self.key, self.pinned, self.read = holder, key, pinned, 0
+
+
+class PlainServed:
+    """What a `serve` replies to lines of sessions over a store of so many batches, with the keys of its holders: which store stood behind
+    which batch follows from the owner's lines that were done."""
+
+    def __init__(self, plain, keys, batches):
+        self.plain, self.keys, self.batches, self.is_begun = plain, keys, batches, False
+        self.seats, self.stores = [], {batches: copy.deepcopy(plain)}
+
+    def done(self, line):
+        """Follows an owner's line that wasn't refused: a batch for each command, and one for the first of all, which begins an epoch."""
+        replaced = line.split(b" ")[1:] if line.startswith(b"replace ") else []
+        self.batches += 1 + 2 * sum(holder == int(number) for holder, _ in self.plain.grants for number in replaced)
+        self.batches += not self.is_begun
+        self.is_begun = True
+        self.plain.done(line)
+        self.stores[self.batches] = copy.deepcopy(self.plain)
+
+    def reply(self, line):
+        word, number, *key = line.split(b" ")
+        if word == b"session":
+            return self.session(int(number), bytes.fromhex(key[0].decode()))
+        if int(number) > len(self.seats):
+            return b"refused no-session\n"
+        return getattr(self, word.decode())(self.seats[int(number) - 1])
+
+    def session(self, holder, key):
+        if len(self.seats) == SESSIONS:
+            return b"refused too-many\n"
+        self.seats.append(PlainSeat(holder, key, self.batches))
+        return b"session %d of %d\n" % (len(self.seats), self.batches)
+
+    def step(self, seat):
+        seat.read = min(seat.read + 1, seat.pinned)
+        return b"read %d of %d\n" % (seat.read, seat.pinned)
+
+    def pin(self, seat):
+        seat.pinned = self.batches
+        return b"pinned %d\n" % seat.pinned
+
+    def show(self, seat):
+        plain = self.stores[seat.pinned]
+        if seat.read < seat.pinned:
+            return b"refused not-read\n"
+        if seat.holder > plain.holders:
+            return b"refused no-holder\n"
+        if self.keys[seat.holder] != seat.key:
+            return b"refused wrong-key\n"
+        return plain.answers(seat.holder, [None])[0][1] + b"end\n"

@@ -18,7 +18,7 @@
     audit      in place of these records all that right links lead to from the key, whenever they were written
 
 Checks import it: `answers` gives what `list` and `open` answer, `audits` what `audit` may answer, `opened_to_write` what `run` does with
-the owner's line alone, and `upgrade` before it writes its batches.
+the owner's line alone, and `upgrade` before it writes its batches; `Sessions` what `serve` replies to the lines of readers' sessions.
 """
 import functools
 import hmac
@@ -32,6 +32,7 @@ from key_step import (BYTES_OF_FILE, CLEARANCES, CONTENTS, FILE_LIMIT, GIVE, HOL
                       sealing_role, source, target)
 
 STORE_LIMIT, HEADER, FRAME = 1_073_741_824, 42, 110
+SESSIONS = 256  # how many sessions one `serve` begins at most
 NAME = re.compile(rb"(?!\.\.?\Z)[A-Za-z0-9._-]{1,64}")
 FIELDS = dict.fromkeys((ROOT, STRICT_ROOT, UPGRADE), ()) | {NEW_HOLDER: (4, 32)}  # of the others two or one of 4 bytes
 FIELDS |= dict.fromkeys((NEW_FOLDER, NEW_FILE, SHIFT_FILE, SHIFT_FOLDER, GIVE, TAKE), (4, 4))
@@ -226,18 +227,29 @@ def batch_at(image, at, number, epoch):
 
 def log(image, owner, writing=False):
     """The batches of the log with their payloads (None for an epoch's): those published, or for writing all."""
-    found, before, batch = [], image[9:41], Batch(0, 0, 0, 0, b"", b"", b"", b"", image[41], HEADER)
-    while batch.gate == 1:
-        batch = batch_at(image, batch.end, batch.number, batch.epoch)
-        if owner is not None and batch.tag != owner_tag(owner, before, image[batch.at:batch.at + 13], batch.masked, batch.check):
-            raise tampered(batch.number, batch.end - 33)
-        if not writing and mac(batch.slot, batch.masked) != batch.check:
-            if batch.gate == 1:
-                raise tampered(batch.number, batch.at + 13)
-            break
-        found.append((batch, unmasked(batch, veil(owner, batch) if writing else batch.slot)))
-        before = batch.tag
+    found = []
+    while row := next_batch(image, found[-1][0] if found else before_the_log(image), owner, writing):
+        found.append(row)
     return found
+
+
+def before_the_log(image):
+    """What stands in the place of a batch before the first one."""
+    return Batch(0, 0, 0, 0, b"", b"", b"", image[9:41], image[41], HEADER)
+
+
+def next_batch(image, last, owner, writing=False):
+    """The batch behind this one, with its payload, and nothing where the log ends."""
+    if image[last.end - 1:last.end] != b"\1":
+        return None
+    batch = batch_at(image, last.end, last.number, last.epoch)
+    if owner is not None and batch.tag != owner_tag(owner, last.tag, image[batch.at:batch.at + 13], batch.masked, batch.check):
+        raise tampered(batch.number, batch.end - 33)
+    if not writing and mac(batch.slot, batch.masked) != batch.check:
+        if batch.gate == 1:
+            raise tampered(batch.number, batch.at + 13)
+        return None
+    return batch, unmasked(batch, veil(owner, batch) if writing else batch.slot)
 
 
 def unmasked(batch, key):
@@ -393,6 +405,65 @@ def is_path(path):
 def is_file(text):
     length = text[0]
     return 1 <= length < len(text) and NAME.fullmatch(text[1:1 + length]) and len(text) - 1 - length <= FILE_LIMIT
+
+
+# who stays
+
+class Session:
+    """A reader's session of `serve`: so many batches of the log are pinned, and so many were read. Each reply is over the store's bytes as
+    they are then."""
+
+    def __init__(self, image, bundle):
+        self.bundle, self.pinned, self.read, self.last = bundle, published(image), 0, before_the_log(image)
+
+    def step(self, image):
+        if self.read < self.pinned:
+            row = next_batch(image, self.last, None)
+            if row is None:
+                raise damaged(self.last.end)
+            self.last, self.read = row[0], self.read + 1
+        return b"read %d of %d\n" % (self.read, self.pinned)
+
+    def pin(self, image):
+        self.pinned = max(self.pinned, published(image))
+        return b"pinned %d\n" % self.pinned
+
+    def show(self, image):
+        """What the pinned batches show, which are the log of bytes that end behind them with a closed gate."""
+        if self.read < self.pinned:
+            return b"refused not-read\n"
+        status, printed, _ = answer = answers(image[:self.last.end - 1] + b"\0", self.bundle, [None])[0]
+        return {0: printed + b"end\n", 11: b"refused wrong-key\n", 15: b"refused no-holder\n"}.get(status, answer)
+
+
+class Sessions:
+    """All sessions of a `serve`."""
+
+    def __init__(self):
+        self.all = []
+
+    def reply(self, line, image):
+        """The reply to a session's line over these bytes; an answer, with its status, where `serve` ends there."""
+        word, number, *key = line.split(b" ")
+        try:
+            if word == b"session":
+                return self.begin(image, Bundle(int(number), bytes.fromhex(key[0].decode())))
+            session = self.all[int(number) - 1:int(number)]
+            return getattr(session[0], word.decode())(image) if session else b"refused no-session\n"
+        except Fault as fault:
+            return fault.answer
+
+    def begin(self, image, bundle):
+        if len(self.all) == SESSIONS:
+            return b"refused too-many\n"
+        self.all.append(Session(image, bundle))
+        return b"session %d of %d\n" % (len(self.all), self.all[-1].pinned)
+
+
+def published(image):
+    """How many batches are published, for who has no owner's key."""
+    test_header(image, None)
+    return len(log(image, None))
 
 
 # what an audit opens

@@ -11,7 +11,7 @@ from system_trace import STRACE, Deeds, Opened
 AHEAD = 65_536  # how many bytes behind the line at which a call ends may be taken
 SYNCED = ("synced",)
 STORE, RANDOM = "STORE", "RANDOM"  # stand for files of the run's own
-ACCESS = {"make": ("O_RDWR", "O_CREAT"), "gen": ("O_RDWR", "O_CREAT"), "run": ("O_RDWR",), "upgrade": ("O_RDWR",)}
+ACCESS = {"make": ("O_RDWR", "O_CREAT"), "gen": ("O_RDWR", "O_CREAT"), "run": ("O_RDWR",), "serve": ("O_RDWR",), "upgrade": ("O_RDWR",)}
 TO_READ = ("O_RDONLY",)
 FULL, FOLDER = "/dev/full", "/"
 SAYS = {"done": (0, b""), "usage": (2, b"cryptree: usage\n"), "bad script": (3, b"cryptree: bad script line %d\n"),
@@ -108,7 +108,7 @@ class Traced:
         return left_by(b"" if makes and self.case.before is None else self.case.before, self.case.order)
 
     def is_taken_as_due(self):
-        """Whether the input was read as far as is due, and of `run` no line before the last one was replied to."""
+        """Whether the input was read as far as is due, and of `run` and `serve` no line before the last one was replied to."""
         due, takes, typed = self.case.takes, self.deeds.takes, self.case.typed
         taken, faults = sum(take.count for take in takes), [take.fault for take in takes if take.fault]
         if due == NONE or not takes:
@@ -124,7 +124,7 @@ class Traced:
 
     def printed_before(self, lines):
         """How many bytes are due to be printed before more is read than so many whole lines: the replies to each but the first."""
-        replies = [deed[1] for deed in self.case.order if deed[0] == "printed"] if self.case.words[2] == "run" else []
+        replies = [deed[1] for deed in self.case.order if deed[0] == "printed"] if self.case.words[2] in ("run", "serve") else []
         behind = max(0, lines - 1)
         return sum(map(len, replies[:behind if self.case.each is None else sum(self.case.each[:behind])]))
 

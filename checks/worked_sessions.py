@@ -51,6 +51,18 @@ DEPARTURE = """
 """
 DEPARTURE_VIEWS = "folder / | folder /a | folder /b | file /b/x 00", "ancestor / | folder /a"
 
+# lines of `serve` over the store "grant", with their replies, by two other programs that were written from the formats alone: what they leave
+# is "revoked"
+HOLDER = b"3f3e3d3c3b3a393837363534333231302f2e2d2c2b2a29282726252423222120"
+VIEW = b"ancestor /\nfolder /a\nfile /a/x 00ff\nend\n"
+SERVED = (
+    (b"session 1 " + HOLDER, b"session 1 of 7\n"), (b"step 1", b"read 1 of 7\n"), (b"revoke 1 /a", b"ok\n"),
+    *((b"step 1", b"read %d of 7\n" % number) for number in range(2, 8)),
+    (b"show 1", VIEW), (b"pin 1", b"pinned 9\n"), (b"show 1", b"refused not-read\n"), (b"step 1", b"read 8 of 9\n"),
+    (b"step 1", b"read 9 of 9\n"), (b"show 1", b"end\n"), (b"show 2", b"refused no-session\n"), (b"session 7 " + HOLDER, b"session 2 of 9\n"),
+    (b"session 1 " + b"0" * 64, b"session 3 of 9\n"), (b"step 2", b"read 1 of 9\n"),
+)
+
 FIRST_DRAWN = "fffefdfcfbfaf9f8f7f6f5f4f3f2f1f0efeeedecebeae9e8e7e6e5e4e3e2e1e0"
 SECOND_HOLDER = f"""
         holder -> holder 2 {FIRST_DRAWN}"""
@@ -79,7 +91,8 @@ ROWS = (
      ("folder 2 1  | folder 4 2 a | file 5 1 x 00ff", "folder 2 1  | folder 4 2 a | file 5 1 x 00ff")),
     Row("revoked", "grant", """
         revoke 1 /a -> ok
-     """, 32, 2991, {1: "3398db7986c732c1677d5a8d1d5a950dab55740b4c0b6bc8fe9d10ab55770b95", 2: None},
+     """, 32, 2991, {1: "3398db7986c732c1677d5a8d1d5a950dab55740b4c0b6bc8fe9d10ab55770b95",
+                2: "5c8c4883beac515c981190c7db8d65eeb468783faee325eeb4f403a090e349d7"},
      ("folder / | folder /a | file /a/x 00ff", ""),
      ("folder 2 1  | folder 4 2 a | file 5 1 x 00ff", "folder 2 1  | folder 4 2 a | file 5 1 x 00ff")),
     Row("written after revocation, the first line", "revoked", """
