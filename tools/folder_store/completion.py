@@ -1,7 +1,7 @@
 """What bash and zsh complete, printed from the one table of commands: `cryptree-folder --completion bash`."""
 import argparse
 
-FILES = ("STORE", "FOLDER", "FILE", "NEW", "DIR")     # what these words stand for is completed as files are
+FILES = ("STORE", "FOLDER", "FILE", "NEW", "DIR", "SOCKET")     # what these words stand for is completed as files are
 
 BASH = """# bash completion of cryptree-folder, as `cryptree-folder --completion bash` prints it
 _cryptree_folder() {{

@@ -11,7 +11,7 @@ from folder_store.completion import Completion
 from folder_store.faults import Fault, warn
 from folder_store.store import Store
 
-MODULES = ("sharing", "who", "put", "get", "looking", "copies", "heads")     # each has add_commands
+MODULES = ("sharing", "who", "put", "get", "looking", "copies", "heads", "bridge")     # each has add_commands
 OPTIONS = {
     "--keys": {"metavar": "DIR", "help": "the key folder (~/.config/cryptree)"},
     "--as": {"metavar": "NAME", "dest": "holder", "help": "read with this holder's key, which is in the key folder"},

@@ -10,9 +10,11 @@ from folder_store.faults import (AlreadyNew, Damaged, Fault, Hostile, NeedsUpgra
 
 RANDOM = "/dev/urandom"     # an ordinary file would give the first holder the owner's key
 INPUT_LIMIT = 67_108_864    # bytes that one session takes, the owner's line among them
+SESSIONS = 256              # that one `serve` begins
 PIECE = 4096                # what goes into a pipe whole or not at all
 BEHIND, FORKED, BAD_PROOF = 19, 20, 21     # statuses of `prove`, of what is handed a head, and of `check`
 HEAD = re.compile(rb"head ((?:0|[1-9][0-9]{0,9}):[0-9a-f]{64})\n")
+MARK, MARKED = "\nrm /", "refused is-root"     # a line that is always refused, and its reply
 ALMOST_NOTHING = 2 << 20    # free bytes on a disk that count as full: a command writes up to 1 MiB and its keys
 LIBRARY = os.path.dirname(os.path.dirname(os.path.abspath(__file__)))     # tools/ of the tree, or PREFIX/lib/cryptree
 BESIDE = os.path.join(*([LIBRARY, "..", "..", "bin"] if LIBRARY.endswith("/lib/cryptree") else [LIBRARY, "..", "build"]), "cryptree")
@@ -131,10 +133,12 @@ class Session:
     """One opening for writing. Each line is answered before the next is sent; the lock on the store is the program's too, so that it's
     held until both have ended, however they end. One with a head is of a store that goes on from it, and at its end has the last one."""
 
+    command = "run"
+
     def __init__(self, store, owner_line, lock, head=None):
         self.store, self.room, self.failure, self.is_answered = store, INPUT_LIMIT, None, False
         self.has_head, self.head = head is not None, None
-        self.process = start(store, *with_head("run", head), stdin=subprocess.PIPE, pass_fds=(lock,))
+        self.process = start(store, *with_head(self.command, head), stdin=subprocess.PIPE, pass_fds=(lock,))
         self.printed = open(self.process.stdout.fileno(), "rb", closefd=False)
         self.send(owner_line)
 
@@ -164,6 +168,10 @@ class Session:
     def say(self, line):
         """The reply to a line."""
         self.send(line)
+        return self.reply(line)
+
+    def reply(self, line):
+        """The next line that is printed, which replies to this one."""
         reply = self.printed.readline()
         if not reply.endswith(b"\n"):
             self.has_head = False
@@ -187,6 +195,30 @@ class Session:
             raise self.failure
         if self.has_head:
             self.head = read_head(rest)
+
+
+class Serve(Session):
+    """One opening for writing that takes the lines of readers' sessions too."""
+
+    command, begun = "serve", 0
+
+    @property
+    def is_half_spent(self):
+        return self.begun > SESSIONS // 2 or self.room < INPUT_LIMIT // 2
+
+    def turn(self, line):
+        """All that a line is answered. How many replies a replacement has isn't told, so behind it goes a line that is always refused."""
+        self.begun += line.startswith("session ")
+        self.send(line + MARK * line.startswith("replace "))
+        replies = [self.reply(line)]
+        while not self.is_last(line, replies[-1]):
+            replies.append(self.reply(line))
+        return "".join(reply + "\n" for reply in (replies[:-1] if line.startswith("replace ") else replies))
+
+    def is_last(self, line, reply):
+        if line.startswith("replace "):
+            return reply == MARKED
+        return not line.startswith("show ") or reply == "end" or reply.startswith("refused ")
 
 
 def fault(store, status, said, is_answered=False):
