@@ -16,9 +16,10 @@ pub enum PayloadFault {
 
 /// Why a reader of a field stopped.
 #[derive(Clone, Copy, Debug)]
-pub(crate) enum Stop {
+pub enum Stop {
     /// The field is bad; so many bytes are left from its first byte on.
     Bad { left: usize },
+    /// There was no memory for what was read.
     OutOfMemory,
 }
 

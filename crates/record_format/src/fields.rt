@@ -6,8 +6,9 @@ ghost use Rattle.record_format.specs.Reading.{Gives};
 
 use crate::fault::Stop;
 
+/// A byte from low to high.
 #[tactic(auto, unfolding(crate::specs::Fields::byte_between))]
-pub(crate) fn byte_of(low: u8, high: u8, bytes: &[u8]) -> Result<(u8, &[u8]), Stop>
+pub fn byte_of(low: u8, high: u8, bytes: &[u8]) -> Result<(u8, &[u8]), Stop>
     ensures { Gives (λ x. (x.0, x.1.now)) result (byte_between low high bytes.now) }
 {
     match bytes {
@@ -16,8 +17,9 @@ pub(crate) fn byte_of(low: u8, high: u8, bytes: &[u8]) -> Result<(u8, &[u8]), St
     }
 }
 
+/// So many bytes.
 #[tactic(auto, unfolding(crate::specs::Fields::bytes_at))]
-pub(crate) fn bytes_of(len: usize, bytes: &[u8]) -> Result<(&[u8], &[u8]), Stop>
+pub fn bytes_of(len: usize, bytes: &[u8]) -> Result<(&[u8], &[u8]), Stop>
     ensures value { Gives (λ x. (x.0.now, x.1.now)) result (bytes_at len bytes.now) }
     ensures len { IfOk result (λ x. length x.0.now ≡ len) }
 {
@@ -28,7 +30,7 @@ pub(crate) fn bytes_of(len: usize, bytes: &[u8]) -> Result<(&[u8], &[u8]), Stop>
 }
 
 /// A field of 32 bytes: a check, a sealed key or a tag.
-pub(crate) fn array_of(bytes: &[u8]) -> Result<([u8; 32], &[u8]), Stop>
+pub fn array_of(bytes: &[u8]) -> Result<([u8; 32], &[u8]), Stop>
     ensures { Gives (λ x. (x.0, x.1.now)) result (bytes_at 32 bytes.now) }
 {
     let (field, rest) = bytes_of(32, bytes)?;
@@ -37,8 +39,9 @@ pub(crate) fn array_of(bytes: &[u8]) -> Result<([u8; 32], &[u8]), Stop>
     Ok((array, rest))
 }
 
+/// A number of four bytes, the highest first.
 #[tactic(auto, unfolding(crate::specs::Fields::and_then, crate::specs::Fields::number_at))]
-pub(crate) fn u32_of(bytes: &[u8]) -> Result<(u32, &[u8]), Stop>
+pub fn u32_of(bytes: &[u8]) -> Result<(u32, &[u8]), Stop>
     ensures { Gives (λ x. (x.0, x.1.now)) result (number_at w32 bytes.now) }
 {
     let (field, rest) = bytes_of(4, bytes)?;
@@ -46,8 +49,9 @@ pub(crate) fn u32_of(bytes: &[u8]) -> Result<(u32, &[u8]), Stop>
     Ok((number, rest))
 }
 
+/// A number of eight bytes, the highest first.
 #[tactic(auto, unfolding(crate::specs::Fields::and_then, crate::specs::Fields::number_at))]
-pub(crate) fn u64_of(bytes: &[u8]) -> Result<(u64, &[u8]), Stop>
+pub fn u64_of(bytes: &[u8]) -> Result<(u64, &[u8]), Stop>
     ensures { Gives (λ x. (x.0, x.1.now)) result (number_at w64 bytes.now) }
 {
     let (field, rest) = bytes_of(8, bytes)?;
@@ -57,8 +61,9 @@ pub(crate) fn u64_of(bytes: &[u8]) -> Result<(u64, &[u8]), Stop>
     Ok((number, rest))
 }
 
+/// A number of four bytes from low to high.
 #[tactic(auto, unfolding(crate::specs::Fields::and_then, crate::specs::Fields::number_between))]
-pub(crate) fn u32_between(low: u32, high: u32, bytes: &[u8]) -> Result<(u32, &[u8]), Stop>
+pub fn u32_between(low: u32, high: u32, bytes: &[u8]) -> Result<(u32, &[u8]), Stop>
     ensures { Gives (λ x. (x.0, x.1.now)) result (number_between w32 low high bytes.now) }
 {
     let (number, rest) = u32_of(bytes)?;

@@ -3,7 +3,7 @@
 
 mod content;
 mod fault;
-mod fields;
+pub mod fields;
 mod laws;
 mod link;
 mod note;
@@ -15,10 +15,10 @@ pub use content::{
     CONTENT_FRAME_LEN, ContentRecord, FILE_TEXT, FOLDER_NAME, HOLDER_KEY, content_header,
     text_range,
 };
-pub use fault::PayloadFault;
+pub use fault::{PayloadFault, Stop};
 pub use laws::{spelling_has_its_size, spelling_is_prefix_free, spelling_reads_back};
 pub use link::{LINK_LEN, LinkRecord, link_header};
 pub use note::Note;
 pub use payload::{Payload, contents_len, links_offset, payload_len};
-pub use reading::read_payload;
-pub use writing::{put_payload, write_payload};
+pub use reading::{list_with_room, read_payload};
+pub use writing::{put_number, put_payload, write_payload};

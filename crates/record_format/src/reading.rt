@@ -171,7 +171,12 @@ fn content_of(alloc: Global, bytes: &[u8]) -> Result<(ContentRecord, &[u8]), Sto
 }
 
 /// Room for so many records, but for no more than the bytes may hold, since the count comes from outside.
-fn list_with_room<T: Drop>(alloc: Global, count: u32, least_len: u64, bytes: &[u8]) -> Mem<List<T>>
+pub fn list_with_room<T: Drop>(
+    alloc: Global,
+    count: u32,
+    least_len: u64,
+    bytes: &[u8],
+) -> Mem<List<T>>
     requires { 1 ≤ least_len }
     ensures { IfOk result (λ records. records.items ≡ []) }
 {

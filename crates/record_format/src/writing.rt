@@ -9,8 +9,9 @@ ghost use Rattle.record_format.specs.Spelling.{be32, spell_note, spell_link, spe
 use crate::{ContentRecord, LinkRecord, Note, Payload, content_header, link_header, payload_len};
 use cry_base::{Mem, Text};
 
+/// Adds a number of four bytes, the highest first, at the end of a text that has room for it.
 #[tactic(auto, unfolding(crate::specs::Spelling::be32))]
-fn put_number(number: u32, out: &mut Text)
+pub fn put_number(number: u32, out: &mut Text)
     requires { 4 ≤ out.old.spare }
     ensures items { out.new.items ≡ out.old.items ++ be32 number }
     ensures spare { out.old.spare ≤ out.new.spare + 4 }

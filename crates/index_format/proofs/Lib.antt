@@ -1,0 +1,4 @@
+pub mod Lengths
+pub mod RowLaws
+pub mod StateLaws
+pub mod FoundLaws
