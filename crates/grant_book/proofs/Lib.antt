@@ -5,3 +5,4 @@ pub mod Lists
 pub mod Looked
 pub mod Matched
 pub mod Ordered
+pub mod Restored

@@ -1,7 +1,7 @@
 -- The numbers that put grants in their places order them by holder and then by folder.
 use Rattle.std.proofs.Common.{◌≡◌, ℕ, ◌+◌, ◌*◌, ◌<◌, not, ◌&&◌, ◌||◌, ◌==◌, nat_lt, ◌↔◌, List, ◌∷◌, ◌++◌, filter, get_or, None, is_some, IsTrue, refl, sym, ap, ◌∙◌, subst, arith}
 use Rattle.std.specs.List.{AllPairs, list_any}
-use Rattle.std.proofs.lemmas.Bool.{lt-ltb, eqb-true, eq-eqb, and_parts, and_from}
+use Rattle.std.proofs.lemmas.Bool.{lt-ltb, ltb-true, eqb-true, eq-eqb, and_parts, and_from}
 use Rattle.std.proofs.lemmas.List.Kept.{AllPairs-filter}
 use Rattle.cry_base.specs.declared.ids.HolderId.{HolderId}
 use Rattle.cry_base.specs.declared.ids.FolderId.{FolderId}
@@ -45,6 +45,13 @@ module _ (pairs : List GrantEntry) (numbered : (e : GrantEntry) → In e pairs �
       let a_fits = numbered a (In-get_or GrantEntry pairs i d (omega arith)) in
       let b_fits = numbered b (In-get_or GrantEntry pairs j d within) in
       sym (lower_pair a.holder a.folder b.holder b.folder a_fits b_fits) ∙ lt-ltb _ _ (rising i j d lt within)
+
+  pub rising : AreOrdered pairs → IsRising rank_of pairs
+  rising order = λ i j d lt within.
+      let a = get_or pairs i d in let b = get_or pairs j d in
+      let a_fits = numbered a (In-get_or GrantEntry pairs i d (omega arith)) in
+      let b_fits = numbered b (In-get_or GrantEntry pairs j d within) in
+      ltb-true _ _ (lower_pair a.holder a.folder b.holder b.folder a_fits b_fits ∙ order i j d lt within)
 
   module _ (h f : ℕ) (fits : f < 4294967296) where
     here : (e : GrantEntry) → In e pairs → (rank_of e == rank_of (grant_of h f)) ≡ is_grant h f e

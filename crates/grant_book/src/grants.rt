@@ -7,11 +7,13 @@ ghost use Rattle.cry_base.specs.Sets.{In};
 ghost use Rattle.cry_base.specs.Store.{GrantEntry};
 ghost use Rattle.cry_base.specs.declared.ids.FolderId.{FolderId as FolderNumber};
 ghost use Rattle.cry_base.specs.declared.ids.HolderId.{HolderId as HolderNumber};
+ghost use Rattle.grant_book.specs.Fitting.{CanStand};
 ghost use Rattle.grant_book.specs.Granted.{AreOrdered, IsHolder, check_at, is_grant, grant_of, holders_on, folders_of, with_pair};
 ghost use Rattle.grant_book.specs.Granted.{without_pair, without_pairs_on};
 
 use crate::Grant;
 use crate::grant::GrantOn;
+use crate::restoring::{are_holders, on_folders};
 use cry_base::{CLEAR_BASE, FolderId, HolderId, List, Mem};
 use sorted_table::Table;
 use std::alloc::Global;
@@ -58,6 +60,28 @@ impl Grants {
             pairs: Table::new(alloc),
             on_folders: Table::new(alloc),
         }
+    }
+
+    /// The holders with these checks, and these grants. It is `None` exactly where the grants can't stand: one doesn't come behind the one
+    /// before, by holder and then by folder, or its holder has no check.
+    pub fn restore(alloc: Global, checks: &[[u8; 32]], pairs: &[Grant]) -> Mem<Option<Self>>
+        requires { length checks.now < 2 ^ 32 }
+        ensures { IfOk result (λ made. MatchOption made (CanStand checks.now pairs.now → ⊥)
+            (λ g. CanStand checks.now pairs.now × (g.checks ≡ checks.now) × (g.pairs ≡ pairs.now))) }
+    {
+        let on_folders = on_folders(alloc, pairs)?;
+        if !are_holders(checks.len(), pairs) {
+            return Ok(None);
+        }
+        let Some(table) = Table::of_rows(alloc, pairs)? else {
+            return Ok(None);
+        };
+        let _pairs = table.as_slice();
+        Ok(Some(Grants {
+            checks: Vec::from_slice(alloc, checks)?,
+            pairs: table,
+            on_folders: Table::of_unordered(on_folders),
+        }))
     }
 
     /// Makes room for one change.

@@ -6,6 +6,7 @@ mod clearances;
 mod grant;
 mod grants;
 pub mod laws;
+mod restoring;
 
 pub use check::check_grant;
 pub use clearances::{clear_number, file_of};

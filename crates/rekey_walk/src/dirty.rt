@@ -1,5 +1,5 @@
 //! The roles whose keys a revoked reader may know, and which of them a change renews.
-ghost use Rattle.std.specs.Prelude.{◌≡◌, [], filter, IfOk, OnOk, OnErr};
+ghost use Rattle.std.specs.Prelude.{◌≡◌, [], filter, IfOk, MatchOption, OnOk, OnErr};
 ghost use Rattle.cry_base.specs.Sets.{has};
 ghost use Rattle.role_graph.specs.Ascending.{IsAscending, without_role};
 ghost use Rattle.role_graph.specs.Roles.{same_role};
@@ -33,6 +33,17 @@ impl Dirty {
         Dirty {
             roles: RoleSet::new(alloc),
         }
+    }
+
+    /// These roles, where each stands behind the one before.
+    pub fn of_roles(alloc: Global, roles: &[Role]) -> Mem<Option<Dirty>>
+        ensures { IfOk result (λ made. MatchOption made (IsAscending roles.now → ⊥)
+            (λ d. IsAscending roles.now × (d ≡ roles.now))) }
+    {
+        let Some(roles) = RoleSet::of_roles(alloc, roles)? else {
+            return Ok(None);
+        };
+        Ok(Some(Dirty { roles }))
     }
 
     /// The same roles once more.

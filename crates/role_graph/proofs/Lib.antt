@@ -25,3 +25,4 @@ pub mod Once
 pub mod EdgesOnce
 pub mod AtEnds
 pub mod Seeing
+pub mod InSteps

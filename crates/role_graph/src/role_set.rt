@@ -1,5 +1,5 @@
 //! A set of roles that is kept in their order.
-ghost use Rattle.std.specs.Prelude.{◌≡◌, ◌<◌, ◌≤◌, ◌⊎◌, [], insert, remove, is_ok, length, IfOk, IfErr, OnOk, OnErr};
+ghost use Rattle.std.specs.Prelude.{◌≡◌, ◌<◌, ◌≤◌, ◌⊎◌, ◌↔◌, [], insert, remove, is_ok, length, IfOk, IfErr, IsTrue, MatchOption, OnOk, OnErr};
 ghost use Rattle.cry_base.specs.Sets.{In, has};
 ghost use Rattle.cry_base.specs.declared.roles.Role.{Role as AnyRole};
 ghost use Rattle.role_graph.specs.Ascending.{IsAscending, with_role, without_role};
@@ -47,6 +47,19 @@ impl RoleSet {
             roles.push(*role)?;
         }
         Ok(RoleSet { roles })
+    }
+
+    /// The set of these roles, where each stands behind the one before.
+    pub fn of_roles(alloc: Global, roles: &[Role]) -> Mem<Option<RoleSet>>
+        ensures { IfOk result (λ made. MatchOption made (IsAscending roles.now → ⊥)
+            (λ s. IsAscending roles.now × (s ≡ roles.now))) }
+    {
+        if !are_ascending(roles) {
+            return Ok(None);
+        }
+        Ok(Some(RoleSet {
+            roles: Vec::from_slice(alloc, roles)?,
+        }))
     }
 
     /// The roles in their order.
@@ -145,6 +158,18 @@ fn find(roles: &[Role], role: Role) -> Result<usize, usize>
     } else {
         Err(place)
     }
+}
+
+/// Whether each role stands behind the one before.
+fn are_ascending(roles: &[Role]) -> bool
+    ensures { IsTrue result ↔ IsAscending roles.now }
+{
+    for at in 1..roles.len() {
+        if !is_before(roles[at - 1], roles[at]) {
+            return false;
+        }
+    }
+    true
 }
 
 /// Whether a stands before b in the order of roles.
