@@ -90,7 +90,7 @@ epoch_stands at links ok =
     }
 
 -- and all of them, one after another
-turns_hold : (turns : List Turn) (at : Stand) (links : List Link) → turns_fit at turns ≡ true → StandHolds at links → StandHolds (turns_stand at turns) (links ++ turns_links at turns)
+pub turns_hold : (turns : List Turn) (at : Stand) (links : List Link) → turns_fit at turns ≡ true → StandHolds at links → StandHolds (turns_stand at turns) (links ++ turns_links at turns)
 unfolding turns_fit turns_stand turns_links turn_fits turn_stand turn_links
 turns_hold [] at links t ok = subst (StandHolds at) (sym (append-nil links)) ok
 turns_hold (Began ∷ turns) at links t ok =

@@ -23,3 +23,8 @@ pub mod Turns
 pub mod Texts
 pub mod WorkedSteps
 pub mod LookUps
+pub mod States
+pub mod StandingRoles
+pub mod StateLaws
+pub mod RowTests
+pub mod KeyOrders

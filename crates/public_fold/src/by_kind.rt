@@ -125,6 +125,17 @@ pub(crate) fn set_keys(rows: &mut KeysByKind, given: &[KeyHead])
     }
 }
 
+/// Puts these keys before those that are there, with memory for each.
+pub(crate) fn add_keys(rows: &mut KeysByKind, given: &[KeyHead]) -> Mem<()>
+    ensures { OnOk result ((keys : List (AnyRole × ℕ)) → IsTableOf keys rows.old → IsTableOf (given.now ++ keys) rows.new) }
+{
+    for key in given.iter().rev() {
+        rows.reserve(1)?;
+        set_key(rows, *key);
+    }
+    Ok(())
+}
+
 /// Puts the key before those that are there.
 fn set_key(rows: &mut KeysByKind, key: KeyHead)
     requires { 1 ≤ rows.old.spare }

@@ -1,10 +1,11 @@
 //! The newest key of each role, found by the role.
 ghost use Rattle.std.specs.Prelude.{◌≡◌, ◌+◌, ◌≤◌, [], ◌++◌, length, option_map, IfOk, IsOk, OnOk};
 ghost use Rattle.public_fold.specs.KeyStep.{keys_without, newest, present};
+ghost use Rattle.public_fold.specs.KeyOrders.{agreed_order};
 ghost use Rattle.public_fold.specs.KeysAfter.{keys_then_of};
 
 use crate::KeyHead;
-use crate::by_kind::{KeysByKind, remove_keys, set_keys};
+use crate::by_kind::{KeysByKind, add_keys, remove_keys, set_keys};
 use crate::key_order::KeyOrder;
 use cry_base::{Mem, Role, Serial};
 use rekey_walk::{has_role, is_same_role};
@@ -44,6 +45,31 @@ impl KeyTable {
             rows: KeysByKind::new(alloc),
             order: KeyOrder::new(),
             room: 0,
+        }
+    }
+
+    /// A table with these keys.
+    pub(crate) fn of_keys(alloc: Global, keys: &[KeyHead]) -> Mem<KeyTable>
+        ensures { IfOk result (λ t. t.keys ≡ keys.now) }
+    {
+        let mut rows = KeysByKind::new(alloc);
+        add_keys(&mut rows, keys)?;
+        Ok(KeyTable {
+            rows,
+            order: KeyOrder::new().giving(keys, &[]),
+            room: 0,
+        })
+    }
+
+    /// The same keys in the other order, where each role has the same newest key there.
+    pub(crate) fn ordered_by(self, order: KeyOrder) -> KeyTable
+        ensures keys { result.keys ≡ agreed_order self.keys order.keys }
+        ensures spare { result.spare ≡ self.spare }
+    {
+        KeyTable {
+            order: self.order.agreeing(&order),
+            rows: self.rows,
+            room: self.room,
         }
     }
 
