@@ -1,0 +1,4 @@
+pub mod Objects
+pub mod Plain
+pub mod Sound
+pub mod Spots
