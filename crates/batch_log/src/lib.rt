@@ -8,4 +8,4 @@ mod writing;
 
 pub use appending::append;
 pub use steps::{Gated, OPEN, Staged, open_gate, stage, unveil, unveil_found};
-pub use writing::write_header;
+pub use writing::{write_and_sync, write_header};

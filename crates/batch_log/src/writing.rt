@@ -9,7 +9,7 @@ ghost use Rattle.batch_log.specs.Moments.{GoesOn, Throughout, TornInto};
 use cry_io::{Disk, Failed};
 
 /// Writes bytes at a place, and makes what is shown stay. After a fault any bytes may be shown in that range.
-pub(crate) fn write_and_sync<D: Disk>(disk: &mut D, place: u64, bytes: &[u8]) -> Result<(), Failed>
+pub fn write_and_sync<D: Disk>(disk: &mut D, place: u64, bytes: &[u8]) -> Result<(), Failed>
     requires inside { place ≤ D.size_of disk.old }
     requires fits { place + length bytes.now < 2 ^ 64 }
     ensures told { is_some (D.shown disk.new) ≡ is_some (D.shown disk.old) }

@@ -1,4 +1,4 @@
--- The step of a note that fits can be sealed, after whatever turns that fit.
+-- The step of a note that fits can be sealed, wherever all holds, and so after whatever turns that fit.
 use Rattle.std.proofs.Common.{◌≡◌, Bool, true, false, List, [], ◌∷◌}
 use Rattle.move_plan.specs.Change.{change_of}
 use Rattle.record_format.specs.Noted.{Note}
@@ -10,21 +10,16 @@ use Rattle.public_fold.specs.StandFits.{note_fits}
 use Rattle.public_fold.specs.Told.{told_store}
 use Rattle.public_fold.specs.Turns.{StandHolds, Turn, turns_fit, turns_links, turns_stand}
 use Rattle.public_fold.proofs.NoteMoves.{note_moves}
-use Rattle.public_fold.proofs.TurnsHold.{epoch_stands, first_note, first_stands, fit_told, log_holds}
+use Rattle.public_fold.proofs.TurnsHold.{epoch_stands, first_note, fit_told, log_holds}
 use Rattle.journal_bytes.specs.Sealing.{IsSealable}
 use Rattle.journal_bytes.proofs.Sealable.{fresh_once, pieces_due, step_sealable}
 use Rattle.public_fold.specs.KeyStep.{is_strict}
 
--- what holds of a stand holds once an epoch was begun, where a note fits it then
-pub begun_holds : (new : Bool) (turns : List Turn) (note : Note) → turns_fit nothing turns ≡ true
-    → note_fits (begun new (turns_stand nothing turns)) note (told_step (begun new (turns_stand nothing turns)) note) ≡ true
-    → (links : List Link) × StandHolds (begun new (turns_stand nothing turns)) links
-unfolding begun_keys turns_stand
-begun_holds true [] note t f = ([], first_stands)
-begun_holds false [] note t f = absurd (first_note note f)
-begun_holds true (turn ∷ turns) note t f =
-    let links = turns_links nothing (turn ∷ turns) in (links, epoch_stands (turns_stand nothing (turn ∷ turns)) links (log_holds turn turns t))
-begun_holds false (turn ∷ turns) note t f = (turns_links nothing (turn ∷ turns), log_holds turn turns t)
+-- what holds of a stand holds where an epoch was begun, or none was
+pub begun_stands : (new : Bool) (at : Stand) (links : List Link) → StandHolds at links → StandHolds (begun new at) links
+unfolding begun_keys
+begun_stands true at links holds = epoch_stands at links holds
+begun_stands false at links holds = holds
 
 pub holding_sealable : (at : Stand) (links : List Link) (note : Note) → StandHolds at links → note_fits at note (told_step at note) ≡ true → IsSealable (told_step at note)
 unfolding told_step note_step
@@ -33,13 +28,8 @@ holding_sealable at links note holds f =
     step_sealable at.store after at.keys (change_of (is_strict at.keys) at.store note) links (pieces_of note after)
     (note_moves (is_strict at.keys) at.store note (unfold told_step note_step in (fit_told at note f).0) holds.store) holds.keys (fresh_once (is_strict at.keys) at.store note) (pieces_due note after)
 
-pub begun_sealable : (new : Bool) (turns : List Turn) (note : Note) → turns_fit nothing turns ≡ true
-    → note_fits (begun new (turns_stand nothing turns)) note (told_step (begun new (turns_stand nothing turns)) note) ≡ true
-    → IsSealable (told_step (begun new (turns_stand nothing turns)) note)
-begun_sealable new turns note t f =
-    let w = begun_holds new turns note t f in holding_sealable (begun new (turns_stand nothing turns)) w.0 note w.1 f
-
 pub turns_sealable : (turns : List Turn) (note : Note) → turns_fit nothing turns ≡ true → note_fits (turns_stand nothing turns) note (told_step (turns_stand nothing turns) note) ≡ true
     → IsSealable (told_step (turns_stand nothing turns) note)
-unfolding begun_keys
-turns_sealable turns note t f = begun_sealable false turns note t f
+unfolding turns_stand
+turns_sealable [] note t f = absurd (first_note note f)
+turns_sealable (turn ∷ turns) note t f = holding_sealable (turns_stand nothing (turn ∷ turns)) (turns_links nothing (turn ∷ turns)) note (log_holds turn turns t) f

@@ -14,8 +14,9 @@ ghost use Rattle.public_fold.specs.Heads.{IsSkeleton};
 ghost use Rattle.public_fold.specs.Journal.{Journal, Stand, entry_step, keys_of, note_step, nothing, stand_after, store_of};
 ghost use Rattle.public_fold.specs.Journal.Entry.{Did};
 ghost use Rattle.public_fold.specs.KeyStep.{KeyState, is_strict, next_epoch, next_serial};
+ghost use Rattle.public_fold.specs.Records.{Link};
 ghost use Rattle.public_fold.specs.StandFits.{note_fits};
-ghost use Rattle.public_fold.specs.Turns.{Turn, turns_fit, turns_stand};
+ghost use Rattle.public_fold.specs.Turns.{StandHolds, Turn, turns_fit, turns_stand};
 ghost use Rattle.public_fold.specs.Valid.{IsValid};
 ghost use Rattle.public_fold.specs.declared.heads.Skeleton.{Skeleton};
 ghost use Rattle.journal_bytes.specs.Folds.{public_stand};
@@ -28,6 +29,12 @@ pub fn commands_can_be_sealed()
     ensures { (m : Journal) → IsValid m → (request : Request) (drawn : List (List ℕ)) (file_bytes : ℕ)
         → refusal_in (is_strict (keys_of m)) (store_of m) request file_bytes ≡ None
         → IsSealable (entry_step (stand_after nothing m) (Did request drawn)) }
+{}
+
+/// Law: the step of a note that fits can be sealed from any stand for which all holds, with whatever links.
+pub fn steps_can_be_sealed_where_all_holds()
+    ensures { (at : Stand) (links : List Link) (note : Note) → StandHolds at links → note_fits at note (told_step at note) ≡ true
+        → IsSealable (told_step at note) }
 {}
 
 /// Law: the step of a note that fits can be sealed, after whatever turns that fit.
