@@ -9,7 +9,7 @@ use Rattle.move_plan.specs.Change.{change_of}
 use Rattle.record_format.specs.Noted.{Note}
 use Rattle.public_fold.specs.Fitted.{told_step}
 use Rattle.public_fold.specs.Heads.{IsSkeleton}
-use Rattle.public_fold.specs.Journal.{Stand, note_step, nothing}
+use Rattle.public_fold.specs.Journal.{Stand, note_step}
 use Rattle.public_fold.specs.KeyStep.{is_strict, published_edges, renewed}
 use Rattle.public_fold.specs.Lengths.{note_len}
 use Rattle.public_fold.specs.Preparing.{begun}
@@ -17,14 +17,14 @@ use Rattle.public_fold.specs.Records.{Link, pieces_of}
 use Rattle.public_fold.specs.StandFits.{note_fits}
 use Rattle.public_fold.specs.Standing.{IsSeenAs}
 use Rattle.public_fold.specs.Told.{told_store}
-use Rattle.public_fold.specs.Turns.{StandHolds, turns_stand}
+use Rattle.public_fold.specs.Turns.{StandHolds}
 use Rattle.public_fold.specs.declared.heads.Skeleton.{Skeleton}
 use Rattle.public_fold.proofs.NoteMoves.{note_moves}
 use Rattle.public_fold.proofs.SerialsKept.{few_fresh, plan_short}
 use Rattle.public_fold.proofs.TurnsHold.{fit_told}
 use Rattle.journal_bytes.specs.Sealing.{skeleton_size}
 use Rattle.journal_bytes.proofs.NextEntry.{given_many, links_many}
-use Rattle.journal_bytes.proofs.SoundSteps.{begun_holds}
+use Rattle.journal_bytes.proofs.SoundSteps.{begun_stands}
 use Rattle.store_owner.specs.Owned.{OwnerView}
 use Rattle.store_owner.specs.Sound.{IsSound}
 
@@ -55,9 +55,8 @@ pub few_keys : (o : OwnerView) (note : Note) (s : Skeleton) (text : ℕ) → IsS
     → ((at : Stand) → IsSeenAs o.state at → note_fits (begun (not o.journal.has_epoch) at) note (told_step (begun (not o.journal.has_epoch) at) note) ≡ true)
     → end_with o.journal (skeleton_size note s text) ≤ o.journal.limit → 32 * length s.keys.items < 4294967296
 few_keys o note s text sound limit skeleton fits within =
-    let was = turns_stand nothing sound.turns in
-    let at = begun (not o.journal.has_epoch) was in
-    let fit = fits was sound.seen in
-    let stands = begun_holds (not o.journal.has_epoch) sound.turns note sound.fit fit in
+    let at = begun (not o.journal.has_epoch) sound.at in
+    let fit = fits sound.at sound.seen in
+    let stands = begun_stands (not o.journal.has_epoch) sound.at sound.goes_on.links sound.goes_on.holds in
     few_within (length s.keys.items) (length s.links.items) (note_len note) ((58 + text) * length s.contents.items) o.journal.end (if o.journal.has_epoch then 0 else batch_len) o.journal.limit
-    (few_given at stands.0 note s stands.1 fit (skeleton was sound.seen)) within limit
+    (few_given at sound.goes_on.links note s stands fit (skeleton sound.at sound.seen)) within limit

@@ -16,9 +16,10 @@ use Rattle.public_fold.specs.KeyStep.{KeyState}
 use Rattle.public_fold.specs.Preparing.{begun_keys}
 use Rattle.public_fold.specs.Standing.{IsSeenAs, public_store_of}
 use Rattle.public_fold.specs.Told.{told_store}
-use Rattle.public_fold.specs.Turns.{turn_fits, turn_stand, turns_fit, turns_stand}
+use Rattle.public_fold.specs.Turns.{turn_fits, turn_stand, turns_fit, turns_links, turns_stand}
 use Rattle.public_fold.specs.Turns.Turn.{Began, Noted}
 use Rattle.public_fold.specs.Valid.{IsValid, IsVersion}
+use Rattle.public_fold.proofs.TurnsHold.{log_holds}
 use Rattle.journal_bytes.specs.Bytes.{batches_of, bodies_from, bodies_of, entry_body, keys_then, step_payload}
 use Rattle.journal_bytes.specs.Folds.{public_stand}
 use Rattle.journal_bytes.specs.Keys.{AreWhole, all_keys, drawn_by, entry_keys, with_bytes}
@@ -31,6 +32,7 @@ use Rattle.store_owner.specs.Making.{IsMadeJournal, first_stand, made_batches, m
 use Rattle.store_owner.specs.Owned.{IsOwnerOf, OwnerView, counting}
 use Rattle.store_owner.specs.Sound.{IsSound, own_store}
 use Rattle.store_owner.proofs.RootSealed.{keys_are}
+use Rattle.store_owner.proofs.SoundStores.{numbers_from_nothing}
 
 -- ---- the journal
 
@@ -148,11 +150,14 @@ module _ (o : OwnerView) (owner : List ℕ) (drawn : List (List ℕ)) (limit : �
 
   pub made_sound : IsSound o
   made_sound = record {
-    turns = Began ∷ Noted made_note ∷ [];
+    at = turns_stand nothing (Began ∷ Noted made_note ∷ []);
     keys = all_keys owner (made_with drawn);
-    fit = turns_do_fit;
+    goes_on = record {
+      links = turns_links nothing (Began ∷ Noted made_note ∷ []);
+      holds = log_holds Began (Noted made_note ∷ []) turns_do_fit;
+      numbers = numbers_from_nothing o.journal.batches (Began ∷ Noted made_note ∷ []) (let two = state.two_batches in omega (arith, two));
+    };
     seen = subst (IsSeenAs o.state) (sym turns_are) seen;
-    numbered = let two = state.two_batches in omega (arith, two);
     same_epoch = state.first_epoch ∙ sym (epoch_is drawn) ∙ ap (λ (k : KeyState). k.epoch) keys_same;
     held = subst (λ (k : KeyState). HoldsKeys (all_keys owner (made_with drawn)) k o.ring (counting k)) keys_same held;
     counts = counts_are (turns_stand nothing (Began ∷ Noted made_note ∷ [])).keys;

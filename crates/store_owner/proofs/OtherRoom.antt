@@ -77,11 +77,10 @@ held_still keys k ring d counter h = record { has_present = h.has_present; drawn
 sound_with : (o : OwnerView) (b c d e f : ℕ) → IsSound o → IsSound (with_room o b c d e f)
 unfolding tree_store
 sound_with o b c d e f s = record {
-  turns = s.turns;
+  at = s.at;
   keys = s.keys;
-  fit = s.fit;
+  goes_on = s.goes_on;
   seen = s.seen;
-  numbered = s.numbered;
   same_epoch = s.same_epoch;
   held = held_still s.keys _ o.ring d _ s.held;
   counts = s.counts;

@@ -18,12 +18,11 @@ use Rattle.record_format.specs.declared.note.Note.{Note as Declared}
 use Rattle.record_format.specs.declared.note.Note.TheVariants as declared
 use Rattle.public_fold.specs.Fitted.{told_step}
 use Rattle.public_fold.specs.Heads.{IsSkeleton, content_head}
-use Rattle.public_fold.specs.Journal.{Stand, first_key, nothing}
+use Rattle.public_fold.specs.Journal.{Stand, first_key}
 use Rattle.public_fold.specs.KeyStep.{is_strict}
 use Rattle.public_fold.specs.Lengths.{note_len}
 use Rattle.public_fold.specs.StandFits.{note_fits}
 use Rattle.public_fold.specs.Standing.{IsSeenAs}
-use Rattle.public_fold.specs.Turns.{turns_stand}
 use Rattle.journal_bytes.specs.Owning.{IsStoreOf}
 use Rattle.journal_bytes.specs.Script.{answer_with}
 use Rattle.journal_bytes.specs.Sealing.{skeleton_size}
@@ -51,7 +50,7 @@ module _ (o : OwnerView) (d : Deed) (sound : IsSound o) where
   pub store_refuses : (why : Refusal) → deed_refusal (is_strict o.state.keys) (own_store o) d o.file_bytes ≡ Some why → HasAnswer (Some why) d o
   unfolding own_answer answer_with
   store_refuses why is = record {
-    at = turns_stand nothing sound.turns;
+    at = sound.at;
     seen = sound.seen;
     is_answer = λ other seen. ap (λ w. answer_with w (is_full_for o other d)) is;
   }
@@ -60,7 +59,7 @@ module _ (o : OwnerView) (d : Deed) (sound : IsSound o) where
     by_room : (full : Bool) → ((at : Stand) → IsSeenAs o.state at → is_full_for o at d ≡ full) → HasAnswer (answer_with None full) d o
     unfolding own_answer
     by_room full is = record {
-      at = turns_stand nothing sound.turns;
+      at = sound.at;
       seen = sound.seen;
       is_answer = λ other seen. ap (λ w. answer_with w (is_full_for o other d)) accepted ∙ ap (answer_with None) (is other seen);
     }

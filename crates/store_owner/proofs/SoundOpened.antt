@@ -1,5 +1,5 @@
 -- An owner who opened a log of payloads that fit is sound.
-use Rattle.std.proofs.Common.{◌≡◌, ℕ, suc, ◌<◌, true, false, cond, ◌==◌, List, [], ◌∷◌, map, length, Some, None, inl, inr, ⊎_elim, refl, sym, ap, ◌∙◌, subst, arith}
+use Rattle.std.proofs.Common.{◌≡◌, ℕ, suc, ◌+◌, ◌<◌, true, false, cond, ◌==◌, List, [], ◌∷◌, ◌++◌, map, length, Some, None, inl, inr, ⊎_elim, refl, sym, ap, ◌∙◌, subst, arith}
 use Rattle.std.specs.Prelude.{find, unwrap_or, Ok, Err, if◌then◌else◌}
 use Rattle.std.proofs.lemmas.Bool.{and_parts, and_from, eqb-true, eq-eqb, false≢true}
 use Rattle.chacha_seal.specs.Keys.{KeyParts}
@@ -23,16 +23,16 @@ use Rattle.public_fold.specs.Keyed.{SerialsHold}
 use Rattle.public_fold.specs.KeyStep.{KeyState, key_step, newest, next_epoch, next_serial, no_keys, present, published, step_with}
 use Rattle.public_fold.specs.Records.{Link}
 use Rattle.public_fold.specs.StandFits.{note_fits}
-use Rattle.public_fold.specs.Standing.{IsSeenAs}
 use Rattle.public_fold.specs.Turns.{StandHolds, Turn, turn_fits, turn_stand, turns_fit, turns_links, turns_stand}
 use Rattle.public_fold.specs.Turns.Turn.{Began, Noted}
-use Rattle.public_fold.proofs.TurnsHold.{log_holds}
+use Rattle.public_fold.proofs.TurnsHold.{log_holds, turns_hold}
 use Rattle.journal_bytes.specs.Keys.{bytes_in, bytes_of}
 use Rattle.journal_bytes.specs.Sealing.{HoldsKeys}
 use Rattle.journal_bytes.proofs.Ready.{newest-role}
 use Rattle.journal_bytes.proofs.Sealable.{present_is}
 use Rattle.store_owner.specs.Owned.{OwnerView, counting}
-use Rattle.store_owner.specs.Sound.{IsOpenedWith, IsSound}
+use Rattle.store_owner.specs.Sound.{CanGoOn, IsOpenedAt, IsOpenedWith, IsSound, LeavesNumbers}
+use Rattle.store_owner.proofs.SoundStores.{numbers_from_nothing, numbers_then, turns_within}
 
 -- ---- the turns of a log
 
@@ -95,9 +95,12 @@ turns_epoch (p ∷ log) at are =
     let same = turn_epoch at p.epoch.0 p.body are.0 in
     turns_epoch log next (subst (λ e. AreInEpochs e log) (sym same) are.1) ∙ ap (λ e. epoch_behind e log) same
 
+pub behind_epoch : (from at : Stand) (log : List PlainPlaced) → AreInEpochs from.keys.epoch log → folded from log ≡ Ok at → at.keys.epoch ≡ epoch_behind from.keys.epoch log
+behind_epoch from at log are e = sym (ap (λ (z : Stand). z.keys.epoch) (log_turns log from at e).stands) ∙ turns_epoch log from are
+
 pub log_epoch : (log : List PlainPlaced) (at : Stand) → AreInEpochs 0 log → folded nothing log ≡ Ok at → at.keys.epoch ≡ epoch_behind 0 log
 unfolding nothing no_keys
-log_epoch log at are e = sym (ap (λ (z : Stand). z.keys.epoch) (unfold nothing no_keys in (log_turns log nothing at e).stands)) ∙ turns_epoch log nothing are
+log_epoch log at are e = behind_epoch nothing at log are e
 
 -- ---- what holds
 
@@ -110,15 +113,38 @@ unfolding folded
 empty_root stand e root =
     let same : nothing ≡ stand = cc in rootless (subst (λ (z : Stand). folder_stands z.store 1 ≡ true) (sym same) root)
 
-turns_hold : (turns : List Turn) (stand : Stand) → AreTurnsTo nothing stand turns → (turns ≡ [] → ⊥) → (links : List Link) × StandHolds stand links
-turns_hold [] stand are some = absurd (some refl)
-turns_hold (turn ∷ turns) stand are some =
+first_holds : (turns : List Turn) (stand : Stand) → AreTurnsTo nothing stand turns → (turns ≡ [] → ⊥) → (links : List Link) × StandHolds stand links
+first_holds [] stand are some = absurd (some refl)
+first_holds (turn ∷ turns) stand are some =
     let links = turns_links nothing (turn ∷ turns) in (links, subst (λ z. StandHolds z links) are.stands (log_holds turn turns are.fit))
 
 pub log_holds_then : (log : List PlainPlaced) (stand : Stand) → folded nothing log ≡ Ok stand → folder_stands stand.store 1 ≡ true → (links : List Link) × StandHolds stand links
 unfolding turns_of
 log_holds_then [] stand e root = absurd (empty_root stand e root)
-log_holds_then (p ∷ log) stand e root = turns_hold (turns_of (p ∷ log)) stand (log_turns (p ∷ log) nothing stand e) (λ none. cc)
+log_holds_then (p ∷ log) stand e root = first_holds (turns_of (p ∷ log)) stand (log_turns (p ∷ log) nothing stand e) (λ none. cc)
+
+-- all that commands need lasts through a log
+pub behind_goes_on : (batches : ℕ) (from at : Stand) (log : List PlainPlaced) → CanGoOn batches from → folded from log ≡ Ok at → CanGoOn (batches + length log) at
+behind_goes_on batches from at log ready e =
+    let turns = turns_of log in
+    let are = log_turns log from at e in
+    let many = as_many_turns log in
+    subst (CanGoOn (batches + length log)) are.stands (record {
+      links = ready.links ++ turns_links from turns;
+      holds = turns_hold turns from ready.links are.fit ready.holds;
+      numbers = numbers_then batches (batches + length log) (length turns) from (turns_stand from turns) ready.numbers (turns_within from turns) (omega (arith, many));
+    })
+
+-- so does what it makes of nothing
+first_goes_on : (batches : ℕ) (log : List PlainPlaced) (at : Stand) → folded nothing log ≡ Ok at → folder_stands at.store 1 ≡ true → batches ≡ length log → CanGoOn batches at
+first_goes_on batches log at folds root same =
+    let holds = log_holds_then log at folds root in
+    let many = as_many_turns log in
+    record {
+      links = holds.0;
+      holds = holds.1;
+      numbers = subst (LeavesNumbers batches) (log_turns log nothing at folds).stands (numbers_from_nothing batches (turns_of log) (omega (arith, many, same)));
+    }
 
 -- ---- the keys
 
@@ -187,24 +213,30 @@ module _ (k : KeyState) (ring : Ringed) (serials : SerialsHold k)
 
 -- ---- the whole
 
-pub opened_sound : (log : List PlainPlaced) (at : Stand) (o : OwnerView) → IsOpenedWith log at o → IsSound o
-opened_sound log at o is =
-    let turns = turns_of log in
-    let are = log_turns log nothing at is.folds in
-    let stands : at ≡ turns_stand nothing turns = sym are.stands in
-    let holds = log_holds_then log at is.folds is.has_root in
-    let keys = kept_keys at.keys o.ring holds.1.serials is.keyed in
-    let many = as_many_turns log in
-    let batches = is.batches in
+pub opened_at_sound : (at : Stand) (o : OwnerView) → IsOpenedAt at o → IsSound o
+opened_at_sound at o is =
+    let serials = is.goes_on.holds.serials in
     record {
-      turns = turns;
-      keys = keys;
-      fit = are.fit;
-      seen = subst (IsSeenAs o.state) stands is.seen;
-      numbered = omega (arith, many, batches);
-      same_epoch = is.epoch ∙ sym (log_epoch log at is.epochs is.folds) ∙ ap (λ (z : Stand). z.keys.epoch) stands;
-      held = subst (λ (z : Stand). HoldsKeys keys z.keys o.ring (counting z.keys)) stands (kept_holds at.keys o.ring holds.1.serials is.keyed);
-      counts = is.not_counted ∙ ap (λ b. cond b (Some (counting (turns_stand nothing turns).keys)) None) (sym is.not_begun);
+      at = at;
+      keys = kept_keys at.keys o.ring serials is.keyed;
+      goes_on = is.goes_on;
+      seen = is.seen;
+      same_epoch = is.epoch;
+      held = kept_holds at.keys o.ring serials is.keyed;
+      counts = is.not_counted ∙ ap (λ b. cond b (Some (counting at.keys)) None) (sym is.not_begun);
       sized = is.sized;
       bounded = is.bounded;
     }
+
+pub opened_sound : (log : List PlainPlaced) (at : Stand) (o : OwnerView) → IsOpenedWith log at o → IsSound o
+opened_sound log at o is =
+    opened_at_sound at o (record {
+      goes_on = first_goes_on o.journal.batches log at is.folds is.has_root is.batches;
+      seen = is.seen;
+      epoch = is.epoch ∙ sym (log_epoch log at is.epochs is.folds);
+      keyed = is.keyed;
+      not_begun = is.not_begun;
+      not_counted = is.not_counted;
+      sized = is.sized;
+      bounded = is.bounded;
+    })

@@ -21,22 +21,22 @@ use Rattle.role_graph.specs.Edges.{edges}
 use Rattle.role_graph.specs.Roles.{holder_role}
 use Rattle.public_fold.specs.Fitted.{told_step}
 use Rattle.public_fold.specs.Heads.{IsSkeleton}
-use Rattle.public_fold.specs.Journal.{Stand, first_key, note_step, nothing}
-use Rattle.public_fold.specs.KeyStep.{KeyState, contents_from, given, is_strict, key_step, keys_then, next_epoch, next_serial, no_keys, numbered, published, published_edges, renewed, step_with}
+use Rattle.public_fold.specs.Journal.{Stand, first_key, note_step}
+use Rattle.public_fold.specs.KeyStep.{KeyState, contents_from, given, is_strict, key_step, keys_then, next_epoch, next_serial, numbered, published, published_edges, renewed, step_with}
 use Rattle.public_fold.specs.Preparing.{begun, begun_keys}
-use Rattle.public_fold.specs.Records.{pieces_of}
+use Rattle.public_fold.specs.Records.{Link, pieces_of}
 use Rattle.public_fold.specs.StandFits.{has_count, note_fits}
 use Rattle.public_fold.specs.Standing.{IsSeenAs}
 use Rattle.public_fold.specs.Told.{told_store}
-use Rattle.public_fold.specs.Turns.{Turn, turns_fit, turns_stand}
+use Rattle.public_fold.specs.Turns.{StandHolds}
 use Rattle.public_fold.specs.declared.heads.Skeleton.{Skeleton}
 use Rattle.public_fold.proofs.Serials.{numbered-length}
-use Rattle.public_fold.proofs.TurnsHold.{fit_told, log_holds}
+use Rattle.public_fold.proofs.TurnsHold.{fit_told}
 use Rattle.journal_bytes.specs.Sealing.{CanSeal, HasLength, HoldsKeys, IsSealable}
 use Rattle.journal_bytes.specs.Texting.{due_key, due_text}
 use Rattle.journal_bytes.proofs.Ready.{can_seal, next_holds}
 use Rattle.journal_bytes.proofs.Sealable.{content_from}
-use Rattle.journal_bytes.proofs.SoundSteps.{begun_sealable}
+use Rattle.journal_bytes.proofs.SoundSteps.{begun_stands, holding_sealable}
 use Rattle.store_owner.specs.Deeds.{Deed, deed_key, deed_note, deed_refusal, deed_text, IsWellNamed}
 use Rattle.store_owner.specs.Applying.{sealed_text}
 use Rattle.store_owner.specs.Deeds.Deed.{Commanded, Upgrading}
@@ -48,13 +48,8 @@ use Rattle.store_owner.proofs.SoundTexts.{IsKeyFor, IsSized, due_fits, files_siz
 
 -- ---- the keys once the session has its epoch
 
-count_first : 0 ≤ 4294967296
-count_first = omega arith
-
-pub count_low : (turns : List Turn) → turns_fit nothing turns ≡ true → (turns_stand nothing turns).keys.count ≤ 4294967296
-unfolding turns_stand nothing no_keys
-count_low [] t = count_first
-count_low (turn ∷ turns) t = let low : (turns_stand nothing (turn ∷ turns)).keys.count < 2 ^ 32 = (log_holds turn turns t).count in omega arith
+pub count_low : (at : Stand) (links : List Link) → StandHolds at links → at.keys.count ≤ 4294967296
+count_low at links holds = let low : at.keys.count < 2 ^ 32 = holds.count in omega arith
 
 held_by : (keys : List KeyParts) (k : KeyState) (ring other : Ringed) (counter : Counting) → other.keys ≡ ring.keys → HoldsKeys keys k ring counter → HoldsKeys keys k other counter
 unfolding key_of
@@ -149,13 +144,14 @@ pub sound_seals : (o : OwnerView) (r : Deed) (drawn : List (List ℕ)) (s : Skel
     → cond o.journal.has_epoch (o.counter ≡ Some counter) (counter ≡ record { epoch = o.journal.epoch + 1; count = 0 })
     → CanSeal ring counter s drawn (sealed_text o r drawn)
 sound_seals o r drawn s ring counter sound good none skeleton fits same room long sizes is =
-    let was = turns_stand nothing sound.turns in
-    let at = begun (not o.journal.has_epoch) was in
+    let at = begun (not o.journal.has_epoch) sound.at in
     let note = deed_note (own_store o) r (replicate 32 0) in
-    let made = skeleton was sound.seen in
-    let fit = fits was sound.seen in
-    let holds = held_then o.journal.has_epoch sound.keys was.keys o.ring ring o.counter counter (o.journal.epoch + 1) sound.held same (count_low sound.turns sound.fit) (ap (λ n. n + 1) sound.same_epoch) sound.counts is in
+    let made = skeleton sound.at sound.seen in
+    let fit = fits sound.at sound.seen in
+    let low = count_low sound.at sound.goes_on.links sound.goes_on.holds in
+    let holds = held_then o.journal.has_epoch sound.keys sound.at.keys o.ring ring o.counter counter (o.journal.epoch + 1) sound.held same low (ap (λ n. n + 1) sound.same_epoch) sound.counts is in
+    let can = holding_sealable at sound.goes_on.links note (begun_stands (not o.journal.has_epoch) sound.at sound.goes_on.links sound.goes_on.holds) fit in
     let text = deed_same (tree_store o.state.tree o.names) (own_store o) r (own_kept o).tree in
-    sealing sound.keys at note ring counter s (sealed_text o r drawn) drawn holds (begun_sealable (not o.journal.has_epoch) sound.turns note sound.fit fit) made (has_room at note fit) long room
+    sealing sound.keys at note ring counter s (sealed_text o r drawn) drawn holds can made (has_room at note fit) long room
     (subst (λ t. HasLength (told_step at note) (t ++ deed_key r (first_key drawn))) (sym text)
     (deed_lengths at (is_strict o.state.keys) (own_store o) r drawn o.file_bytes sound.bounded good none (files_sized (own_store o) sound.sized) (long ∙ ap length made.keys) sizes))

@@ -1,7 +1,7 @@
 -- An owner stays sound who carries out a command that isn't refused, and whose note fits.
-use Rattle.std.proofs.Common.{◌≡◌, ℕ, ◌+◌, ◌≤◌, Bool, true, false, cond, not, ◌&&◌, ◌⊎◌, List, [], ◌∷◌, ◌++◌, length, replicate, Option, Some, None, inl, inr, ⊎_elim, refl, sym, ap, ◌∙◌, subst, arith, length-append}
+use Rattle.std.proofs.Common.{◌≡◌, ℕ, ◌+◌, ◌≤◌, Bool, true, false, cond, not, ◌⊎◌, List, [], ◌∷◌, ◌++◌, length, replicate, Option, Some, None, inl, inr, ⊎_elim, refl, sym, ap, ◌∙◌, subst, arith}
 use Rattle.std.specs.Prelude.{◌==◌}
-use Rattle.std.proofs.lemmas.Bool.{and_from, and_parts, eq-eqb, eqb-true}
+use Rattle.std.proofs.lemmas.Bool.{eq-eqb, eqb-true}
 use Rattle.chacha_seal.specs.Keys.{KeyParts}
 use Rattle.chacha_seal.specs.Serials.{Counting}
 use Rattle.cry_base.specs.Limits.{most_file_bytes}
@@ -24,62 +24,27 @@ use Rattle.record_format.specs.Noted.{Note}
 use Rattle.record_format.specs.Noted.Note.{Root, NewHolder, NewFolder, NewFile, Rewrite, NameFile, NameFolder, DropFile, DropFolder, ShiftFile, ShiftFolder, Give, Take, StrictRoot, Upgrade}
 use Rattle.public_fold.specs.Fitted.{told_stand, told_step}
 use Rattle.public_fold.specs.Heads.{IsSkeleton}
-use Rattle.public_fold.specs.Journal.{Stand, note_step, nothing}
+use Rattle.public_fold.specs.Journal.{Stand, note_step}
 use Rattle.public_fold.specs.KeyStep.{is_strict, key_step, next_epoch, published, step_with}
 use Rattle.public_fold.specs.Preparing.{begun, begun_keys}
 use Rattle.public_fold.specs.StandFits.{note_fits}
 use Rattle.public_fold.specs.Standing.{IsSeenAs}
 use Rattle.public_fold.specs.Told.{told_store}
-use Rattle.public_fold.specs.Turns.{Turn, turn_fits, turn_stand, turns_fit, turns_stand}
-use Rattle.public_fold.specs.Turns.Turn.{Began, Noted}
+use Rattle.public_fold.proofs.TurnsHold.{note_holds}
 use Rattle.journal_bytes.specs.Sealing.{HoldsKeys, IsSealable, keys_with}
 use Rattle.journal_bytes.specs.Texting.{AreKept, AreTitlesAfter, IsRemoved, IsRenamed, IsWritten, name_at}
-use Rattle.journal_bytes.proofs.SoundSteps.{begun_sealable}
+use Rattle.journal_bytes.proofs.SoundSteps.{begun_stands, holding_sealable}
 use Rattle.store_owner.specs.Deeds.{AreDeedTitles, Deed, deed_note, deed_refusal, IsWellNamed}
 use Rattle.store_owner.specs.Applying.{IsCarriedOut}
 use Rattle.store_owner.specs.Deeds.Deed.{Commanded, Upgrading}
 use Rattle.store_owner.specs.Owned.{OwnerView, counting}
 use Rattle.store_owner.specs.Sound.{IsSound, own_store}
 use Rattle.store_owner.proofs.SoundSeals.{count_low, held_then}
-use Rattle.store_owner.proofs.SoundStores.{own_kept}
+use Rattle.store_owner.proofs.SoundStores.{numbers_after, own_kept}
 use Rattle.store_owner.proofs.SoundTexts.{few_bytes}
 
--- ---- turns, and those of a session's command behind them
+-- ---- the epoch of the session
 
-stand_after_turns : (at : Stand) (turns more : List Turn) → turns_stand at (turns ++ more) ≡ turns_stand (turns_stand at turns) more
-unfolding turns_stand
-stand_after_turns at [] more = refl
-stand_after_turns at (turn ∷ turns) more = stand_after_turns (turn_stand at turn) turns more
-
-fit_after_turns : (at : Stand) (turns more : List Turn) → turns_fit at turns ≡ true → turns_fit (turns_stand at turns) more ≡ true → turns_fit at (turns ++ more) ≡ true
-unfolding turns_fit turns_stand
-fit_after_turns at [] more t f = f
-fit_after_turns at (turn ∷ turns) more t f =
-    let both = and_parts (turn_fits at turn) (turns_fit (turn_stand at turn) turns) t in
-    and_from (turn_fits at turn) (turns_fit (turn_stand at turn) (turns ++ more)) both.0 (fit_after_turns (turn_stand at turn) turns more both.1 f)
-
--- an epoch where the session has begun none, and the command's note
-session_turns : Bool → Note → List Turn
-session_turns has note = cond has (Noted note ∷ []) (Began ∷ Noted note ∷ [])
-
-session_stand : (has : Bool) (at : Stand) (note : Note) → turns_stand at (session_turns has note) ≡ told_stand (begun (not has) at) note
-unfolding turns_stand turn_stand session_turns begun_keys
-session_stand true at note = refl
-session_stand false at note = refl
-
-session_fit : (has : Bool) (at : Stand) (note : Note) → note_fits (begun (not has) at) note (told_step (begun (not has) at) note) ≡ true → turns_fit at (session_turns has note) ≡ true
-unfolding turns_fit turn_fits turn_stand session_turns begun_keys
-session_fit true at note f = and_from (note_fits at note (told_step at note)) true f refl
-session_fit false at note f =
-    let next : Stand = record at { keys = next_epoch at.keys } in
-    and_from true (note_fits next note (told_step next note) && true) refl (and_from (note_fits next note (told_step next note)) true f refl)
-
-session_long : (has : Bool) (note : Note) → length (session_turns has note) ≡ cond has 1 2
-unfolding session_turns
-session_long true note = refl
-session_long false note = refl
-
--- the epoch of the session
 session_epoch : (has : Bool) (at : Stand) (note : Note) → (told_stand (begun (not has) at) note).keys.epoch ≡ at.keys.epoch + cond has 0 1
 unfolding told_stand told_step note_step key_step step_with published begun_keys next_epoch
 session_epoch true at note = omega arith
@@ -306,25 +271,27 @@ pub stays_sound : (r : Deed) (drawn : List (List ℕ)) (old new : OwnerView) (wa
 stays_sound r drawn old new was shows sound good none fits out batches epoch =
     let has = old.journal.has_epoch in
     let note = deed_note (own_store old) r (replicate 32 0) in
-    let first = turns_stand nothing sound.turns in
-    let at = begun (not has) first in
-    let fit = fits first sound.seen in
-    let after = told_stand at note in
-    let stands : after ≡ turns_stand nothing (sound.turns ++ session_turns has note) = sym (stand_after_turns nothing sound.turns (session_turns has note) ∙ session_stand has first note) in
-    let held = held_on has sound.keys first old out.sealed.starts out.sealed.between.epoch new.journal.epoch sound.held (count_low sound.turns sound.fit) sound.same_epoch sound.counts out.sealed.starts_as epoch out.same_epoch in
-    let holds = keys_on r drawn old new was shows out sound.keys at note held (begun_sealable (not has) sound.turns note sound.fit fit) (out.sealed.is_skeleton first (own_store old) sound.seen (own_kept old)) in
-    let numbered = sound.numbered in
-    let long = length-append sound.turns (session_turns has note) ∙ ap (λ n. length sound.turns + n) (session_long has note) in
+    let at = begun (not has) sound.at in
+    let fit = fits sound.at sound.seen in
+    let links = sound.goes_on.links in
+    let stands = begun_stands (not has) sound.at links sound.goes_on.holds in
+    let seen = out.seen_then sound.at (own_store old) sound.seen (own_kept old) in
+    let low = count_low sound.at links sound.goes_on.holds in
+    let held = held_on has sound.keys sound.at old out.sealed.starts out.sealed.between.epoch new.journal.epoch sound.held low sound.same_epoch sound.counts out.sealed.starts_as epoch out.same_epoch in
+    let can = holding_sealable at links note stands fit in
+    let holds = keys_on r drawn old new was shows out sound.keys at note held can (out.sealed.is_skeleton sound.at (own_store old) sound.seen (own_kept old)) in
     record {
-      turns = sound.turns ++ session_turns has note;
+      at = told_stand at note;
       keys = keys_with sound.keys (told_step at note) drawn;
-      fit = fit_after_turns nothing sound.turns (session_turns has note) sound.fit (session_fit has first note fit);
-      seen = subst (IsSeenAs new.state) stands (out.seen_then first (own_store old) sound.seen (own_kept old));
-      numbered = omega (arith, numbered, long, batches);
-      same_epoch = epoch ∙ ap (λ n. n + cond has 0 1) sound.same_epoch ∙ sym (session_epoch has first note) ∙ ap (λ (z : Stand). z.keys.epoch) stands;
-      held = subst (λ (z : Stand). HoldsKeys (keys_with sound.keys (told_step at note) drawn) z.keys new.ring (counting z.keys)) stands
-          (subst (HoldsKeys (keys_with sound.keys (told_step at note) drawn) after.keys new.ring) holds.is_counted holds);
-      counts = out.ends_as ∙ ap Some (holds.is_counted ∙ ap (λ (z : Stand). counting z.keys) stands) ∙ ap (λ b. cond b (Some (counting (turns_stand nothing (sound.turns ++ session_turns has note)).keys)) None) (sym out.has_begun);
-      sized = files_stay r old new (not has) first sound.seen (out.seen_then first (own_store old) sound.seen (own_kept old)) sound.bounded none (out.titles_then (own_store old) (own_kept old).tree) sound.sized;
+      goes_on = record {
+        links = links ++ (told_step at note).links;
+        holds = note_holds at note links fit stands;
+        numbers = numbers_after has sound.at note old.journal.batches new.journal.batches sound.goes_on.numbers batches;
+      };
+      seen = seen;
+      same_epoch = epoch ∙ ap (λ n. n + cond has 0 1) sound.same_epoch ∙ sym (session_epoch has sound.at note);
+      held = subst (HoldsKeys (keys_with sound.keys (told_step at note) drawn) (told_stand at note).keys new.ring) holds.is_counted holds;
+      counts = out.ends_as ∙ ap Some holds.is_counted ∙ ap (λ b. cond b (Some (counting (told_stand at note).keys)) None) (sym out.has_begun);
+      sized = files_stay r old new (not has) sound.at sound.seen seen sound.bounded none (out.titles_then (own_store old) (own_kept old).tree) sound.sized;
       bounded = subst (λ n. n ≤ most_file_bytes) (sym out.same_bound) sound.bounded;
     }

@@ -1,5 +1,5 @@
 -- The store that an owner keeps, whatever it was opened on, and how many of each kind were ever made in it.
-use Rattle.std.proofs.Common.{ℕ, suc, ◌+◌, ◌*◌, ◌≤◌, ◌<◌, List, [], ◌∷◌, length, refl, ap, arith}
+use Rattle.std.proofs.Common.{◌≡◌, ℕ, suc, ◌+◌, ◌*◌, ◌≤◌, ◌<◌, Bool, true, false, cond, not, List, [], ◌∷◌, length, refl, ap, arith}
 use Rattle.std.specs.List.{range_with_len}
 use Rattle.cry_base.specs.Clearances.{clear_base}
 use Rattle.cry_base.specs.Layout.{batch_len, header_len}
@@ -11,13 +11,14 @@ use Rattle.record_format.specs.Noted.{Note}
 use Rattle.record_format.specs.Noted.Note.{Root, NewHolder, NewFolder, NewFile, Rewrite, NameFile, NameFolder, DropFile, DropFolder, ShiftFile, ShiftFolder, Give, Take, StrictRoot, Upgrade}
 use Rattle.public_fold.specs.Fitted.{told_stand, told_step}
 use Rattle.public_fold.specs.Journal.{Stand, note_step, nothing}
-use Rattle.public_fold.specs.KeyStep.{key_step, next_epoch, no_keys, published, step_with}
+use Rattle.public_fold.specs.KeyStep.{KeyState, key_step, next_epoch, no_keys, published, step_with}
+use Rattle.public_fold.specs.Preparing.{begun, begun_keys}
 use Rattle.public_fold.specs.Told.{told_store}
 use Rattle.public_fold.specs.Turns.{Turn, turn_stand, turns_stand}
 use Rattle.public_fold.specs.Turns.Turn.{Began, Noted}
 use Rattle.journal_bytes.specs.Owning.{IsStoreOf}
 use Rattle.store_owner.specs.Owned.{OwnerView}
-use Rattle.store_owner.specs.Sound.{IsSound, granted_in, own_store}
+use Rattle.store_owner.specs.Sound.{IsSound, LeavesNumbers, granted_in, most_unlogged, own_store}
 use Rattle.store_owner.proofs.OwnerKeeps.{number_keyless}
 
 pub own_kept : (o : OwnerView) → IsStoreOf o.state.tree o.names (granted_in o) (own_store o)
@@ -74,44 +75,57 @@ within_on n a b c one more = record {
   epoch = let x = one.epoch in let y = more.epoch in omega arith;
 }
 
-turns_within : (at : Stand) (turns : List Turn) → AreWithin (length turns) at (turns_stand at turns)
+pub turns_within : (at : Stand) (turns : List Turn) → AreWithin (length turns) at (turns_stand at turns)
 unfolding turns_stand
 turns_within at [] = record { folders = omega arith; files = omega arith; holders = omega arith; epoch = omega arith }
 turns_within at (turn ∷ turns) = within_on (length turns) at (turn_stand at turn) (turns_stand (turn_stand at turn) turns) (turn_within at turn) (turns_within (turn_stand at turn) turns)
 
-from_nothing : (turns : List Turn) → AreWithin (length turns) (record { store = no_store; keys = no_keys }) (turns_stand nothing turns)
+-- numbers are left where so many batches came as made no more than this
+pub numbers_then : (was now more : ℕ) (before after : Stand) → LeavesNumbers was before → AreWithin more before after → was + more ≤ now → LeavesNumbers now after
+numbers_then was now more before after few within room = record {
+  folders = let x = few.folders in let y = within.folders in omega arith;
+  files = let x = few.files in let y = within.files in omega arith;
+  holders = let x = few.holders in let y = within.holders in omega arith;
+  epochs = let x = few.epochs in let y = within.epoch in omega arith;
+}
+
+from_none : LeavesNumbers 0 (record { store = no_store; keys = no_keys })
+unfolding no_store no_keys
+from_none = record { folders = omega arith; files = omega arith; holders = omega arith; epochs = omega arith }
+
+-- so they are after no more turns from nothing than there are batches
+pub numbers_from_nothing : (batches : ℕ) (turns : List Turn) → length turns ≤ batches → LeavesNumbers batches (turns_stand nothing turns)
 unfolding nothing
-from_nothing turns = turns_within nothing turns
+numbers_from_nothing batches turns few = numbers_then 0 batches (length turns) (record { store = no_store; keys = no_keys }) (turns_stand nothing turns) from_none (turns_within nothing turns) (omega (arith, few))
 
-few_below : (n m made : ℕ) → n ≤ m → header_len + batch_len * m ≤ most_store_bytes → made ≤ n → made < clear_base
-few_below n m made a b c = omega arith
+-- so they are after a command, with the session's epoch where it has begun none
+command_within : (has : Bool) (at : Stand) (note : Note) → AreWithin 1 at (told_stand (begun (not has) at) note)
+unfolding told_stand told_step note_step key_step step_with published next_epoch begun_keys
+command_within true at note = let more = one_more at.store note in record { folders = more.folders; files = more.files; holders = more.holders; epoch = omega arith }
+command_within false at note = let more = one_more at.store note in record { folders = more.folders; files = more.files; holders = more.holders; epoch = omega arith }
 
-few : (n m made : ℕ) → n ≤ m → header_len + batch_len * m ≤ most_store_bytes → made ≤ n → made < 4294967295
-few n m made a b c = omega arith
+some_batches : (has : Bool) (was now : ℕ) → now ≡ was + cond has 1 2 → was + 1 ≤ now
+some_batches true was now e = let more : now ≡ was + 1 = e in omega (arith, more)
+some_batches false was now e = let more : now ≡ was + 2 = e in omega (arith, more)
+
+pub numbers_after : (has : Bool) (at : Stand) (note : Note) (was now : ℕ) → LeavesNumbers was at → now ≡ was + cond has 1 2 → LeavesNumbers now (told_stand (begun (not has) at) note)
+numbers_after has at note was now few more = numbers_then was now 1 at (told_stand (begun (not has) at) note) few (command_within has at note) (some_batches has was now more)
+
+few_below : (m made : ℕ) → header_len + batch_len * m ≤ most_store_bytes → made ≤ most_unlogged + m → made < clear_base
+few_below m made a b = omega arith
+
+few : (m made : ℕ) → header_len + batch_len * m ≤ most_store_bytes → made ≤ most_unlogged + m → made < 4294967295
+few m made a b = omega arith
 
 module _ (o : OwnerView) (sound : IsSound o) (room : header_len + batch_len * o.journal.batches ≤ most_store_bytes) where
-  made_few : (made : ℕ) → made ≤ length sound.turns → made < 4294967295
-  made_few made low = few (length sound.turns) o.journal.batches made sound.numbered room low
-
   pub folders_few : o.state.tree.folders_made < 4294967295
-  unfolding no_store
-  folders_few = let same = ap (λ (s : Store). s.folders_made) sound.seen.store in let low = (from_nothing sound.turns).folders in made_few o.state.tree.folders_made (omega arith)
-
-  pub files_few : o.state.tree.files_made < 4294967295
-  unfolding no_store
-  files_few = let same = ap (λ (s : Store). s.files_made) sound.seen.store in let low = (from_nothing sound.turns).files in made_few o.state.tree.files_made (omega arith)
+  folders_few = let same = ap (λ (s : Store). s.folders_made) sound.seen.store in let low = sound.goes_on.numbers.folders in few o.journal.batches o.state.tree.folders_made room (omega arith)
 
   pub files_below : o.state.tree.files_made < clear_base
-  unfolding no_store
-  files_below =
-      let same = ap (λ (s : Store). s.files_made) sound.seen.store in
-      let low = (from_nothing sound.turns).files in
-      few_below (length sound.turns) o.journal.batches o.state.tree.files_made sound.numbered room (omega arith)
+  files_below = let same = ap (λ (s : Store). s.files_made) sound.seen.store in let low = sound.goes_on.numbers.files in few_below o.journal.batches o.state.tree.files_made room (omega arith)
 
   pub holders_few : length o.state.checks < 4294967295
-  unfolding no_store
-  holders_few = let same = ap (λ (s : Store). s.holders_made) sound.seen.store in let low = (from_nothing sound.turns).holders in made_few (length o.state.checks) (omega arith)
+  holders_few = let same = ap (λ (s : Store). s.holders_made) sound.seen.store in let low = sound.goes_on.numbers.holders in few o.journal.batches (length o.state.checks) room (omega arith)
 
   pub epoch_few : o.state.keys.epoch < 4294967295
-  unfolding no_keys
-  epoch_few = let same = ap (λ k. k.epoch) sound.seen.keys in let low = (from_nothing sound.turns).epoch in made_few o.state.keys.epoch (omega arith)
+  epoch_few = let same = ap (λ (k : KeyState). k.epoch) sound.seen.keys in let low = sound.goes_on.numbers.epochs in few o.journal.batches o.state.keys.epoch room (omega arith)

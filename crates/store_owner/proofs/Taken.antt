@@ -9,11 +9,10 @@ use Rattle.cry_base.specs.declared.commands.Reply.{Reply}
 use Rattle.cry_io.specs.Told.{WhereBothTold}
 use Rattle.cry_io.proofs.ToldLemmas.{both_told_through, told_again}
 use Rattle.public_fold.specs.Fitted.{told_step}
-use Rattle.public_fold.specs.Journal.{nothing, Stand}
+use Rattle.public_fold.specs.Journal.{Stand}
 use Rattle.public_fold.specs.KeyStep.{is_strict}
 use Rattle.public_fold.specs.Preparing.{begun}
 use Rattle.public_fold.specs.Standing.{IsSeenAs}
-use Rattle.public_fold.specs.Turns.{turns_stand}
 use Rattle.record_format.specs.Noted.{Note}
 use Rattle.record_format.specs.Told.{told_note}
 use Rattle.journal_bytes.specs.Owning.{IsStoreOf}
@@ -75,7 +74,7 @@ module _ (o : OwnerView) (r : Deed) (keys : ℕ) (before after : Option (List �
   filled_short given wanted fault bytes =
       let f = fault small in
       record {
-        at = turns_stand nothing sound.turns;
+        at = sound.at;
         seen = sound.seen;
         accepted = accepted;
         is_need = λ at seen. f.0 ∙ ap (λ n. 32 * n) (planned at seen);

@@ -33,7 +33,7 @@ ghost use Rattle.journal_bytes.specs.Sealing.{CanSeal, skeleton_size};
 ghost use Rattle.store_owner.specs.Deeds.{Deed, deed_note, deed_refusal, IsWellNamed};
 ghost use Rattle.store_owner.specs.Applying.{IsCarriedOut, sealed_text};
 ghost use Rattle.store_owner.specs.Owned.{OwnerView};
-ghost use Rattle.store_owner.specs.Sound.{IsOpenedWith, IsSound, granted_in, own_store};
+ghost use Rattle.store_owner.specs.Sound.{CanGoOn, IsOpenedAt, IsOpenedWith, IsSound, granted_in, own_store};
 
 /// Law: the store that an owner keeps is a store of its tree, names and grants, and numbers are left for one folder, file, holder
 /// and epoch more; each file has a clearance number.
@@ -104,9 +104,20 @@ pub fn owners_visits_open_all()
         → (x : FileEntry) → In x after.store.files → length x.bytes ≤ most_file_bytes }
 {}
 
-/// Law: an owner is sound who has what the payloads of a log leave, each of which fits, and the present key of each role; and
-/// the epoch that they leave is that of the log's last batch.
+/// Law: from what the payloads of a log leave, each of which fits, commands can go on where they could from the stand before it;
+/// and its epoch is that of the log's last batch.
+pub fn commands_go_on_behind_a_log()
+    ensures stands { (batches : ℕ) (from at : Stand) (log : List PlainPlaced) → CanGoOn batches from → folded from log ≡ Ok at
+        → CanGoOn (batches + length log) at }
+    ensures epoch { (from at : Stand) (log : List PlainPlaced) → AreInEpochs from.keys.epoch log → folded from log ≡ Ok at
+        → at.keys.epoch ≡ epoch_behind from.keys.epoch log }
+{}
+
+/// Law: an owner is sound who has a stand that commands can go on from, wherever it comes from, and the present key of each
+/// role. So is one who has what the payloads of a log leave, each of which fits; and the epoch that they leave is that of the
+/// log's last batch.
 pub fn opened_owners_are_sound()
+    ensures anywhere { (at : Stand) (o : OwnerView) → IsOpenedAt at o → IsSound o }
     ensures epoch { (log : List PlainPlaced) (at : Stand) → AreInEpochs 0 log → folded nothing log ≡ Ok at
         → at.keys.epoch ≡ epoch_behind 0 log }
     ensures sound { (log : List PlainPlaced) (at : Stand) (o : OwnerView) → IsOpenedWith log at o → IsSound o }
