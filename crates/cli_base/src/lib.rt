@@ -5,4 +5,5 @@ pub mod input;
 pub mod lines;
 pub mod outside;
 mod piece;
+pub mod reading;
 pub mod status;

@@ -1,8 +1,6 @@
 -- How a command ends that only reads a store. This project's own, docs/PROGRAM.md, "The program".
 use Rattle.std.specs.Prelude.{Bool, true, false}
 use Rattle.commit_journal.specs.Answering.{NotAStore, WrongKey, Damaged, Tampered}
-use Rattle.log_visits.specs.declared.fault.ClientFault.{ClientFault}
-use Rattle.log_visits.specs.declared.fault.ClientFault.TheVariants as clients
 use Rattle.log_visits.specs.Judging.{Failure, NoHolder, OfBytes, Unseen}
 pub use Rattle.cli_base.specs.Input.{input_status}
 use Rattle.cli_base.specs.declared.status.Status.{Status}
@@ -16,17 +14,6 @@ failure_status (OfBytes (Damaged at)) = statuses.Damaged at
 failure_status (OfBytes (Tampered batch at)) = statuses.Tampered batch at
 failure_status (NoHolder known) = statuses.NoHolder known
 failure_status Unseen = statuses.Unseen
-
--- where a client's call shows nothing
-abbrev pub client_status : ClientFault → Status
-client_status clients.NotAStore = statuses.NotAStore
-client_status clients.WrongKey = statuses.WrongKey
-client_status (clients.Damaged at) = statuses.Damaged at
-client_status (clients.Tampered batch at) = statuses.Tampered batch at
-client_status (clients.NoHolder known) = statuses.NoHolder known
-client_status clients.Unseen = statuses.Unseen
-client_status clients.DiskFault = statuses.DiskFault
-client_status clients.OutOfMemory = statuses.OutOfMemory
 
 -- how it may end, for a command that may tell "unseen" or one that doesn't, and for words that name a head or none
 abbrev pub is_reading_answer : Bool → Bool → Status → Bool

@@ -1,7 +1,6 @@
 //! The commands that only read a store: `list`, `open` and `audit`, over any source of input, any disk and any sink.
 #![tactic(auto)]
 
-mod answering;
 pub mod audit;
 pub mod list;
 pub mod open;

@@ -10,9 +10,9 @@ ghost use Rattle.cli_reading.specs.Held.{HeldTo, MayGive};
 ghost use Rattle.cli_reading.specs.Reading.{GivesText, Reads, TellsText};
 ghost use Rattle.cli_reading.specs.Statuses.{is_before_read, is_reading_answer, is_unprinted};
 
-use crate::answering::client_status;
 use cli_base::input::{input_status, read_bundle_line};
 use cli_base::outside::tell;
+use cli_base::reading::reading_status;
 use cli_base::status::Status;
 use cli_heads::testing::test_head;
 use cry_base::{Bundle, Text};
@@ -115,6 +115,6 @@ fn text_of_store<C: ReadingCommand, D: Disk>(
 {
     match command.text(alloc, disk, bundle) {
         Ok(text) => Ok(text),
-        Err(fault) => Err(client_status(fault)),
+        Err(fault) => Err(reading_status(fault)),
     }
 }

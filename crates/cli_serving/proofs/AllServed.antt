@@ -24,10 +24,11 @@ use Rattle.public_fold.specs.Valid.{IsValid}
 use Rattle.read_steps.specs.Steps.{SessionView}
 use Rattle.log_visits.specs.declared.fault.ClientFault.{ClientFault}
 use Rattle.script_text.specs.Seats.{SeatAsk, Turn}
-use Rattle.script_text.specs.Seats.SeatAsk.{Begins}
+use Rattle.script_text.specs.Seats.SeatAsk.{Begins, Shows}
 use Rattle.script_text.specs.Seats.Turn.{ToOwner, ToSeat}
 use Rattle.script_text.specs.Tasks.{Task}
-use Rattle.session_laws.specs.Seats.{PlainReply}
+use Rattle.session_laws.specs.Replying.{AnswersTurns}
+use Rattle.session_laws.specs.Seats.{PlainReply, Seat, seat_at}
 use Rattle.session_laws.specs.Serving.{HaveHonestKeys, served_text, served_then, spell_plain_reply}
 use Rattle.session_laws.specs.Sessions.{IsFromOutside}
 use Rattle.store_owner.specs.Applying.{Answers}
@@ -50,6 +51,7 @@ use Rattle.cli_sessions.proofs.OwnerEnds.{owner_end}
 use Rattle.cli_sessions.proofs.RunEnds.{accepted_there, still_told}
 use Rattle.cli_sessions.proofs.ScriptLemmas.{whole_is_cut}
 use Rattle.cli_sessions.proofs.StoodLemmas.{StandsThere, front_line, going_append, replies_append}
+use Rattle.session_laws.proofs.KeysHonest.{seat_in}
 use Rattle.session_laws.proofs.SeatsForward.{script_grows}
 use Rattle.cli_sessions.proofs.RunLemmas.{Fails, IsCounted, IsPresent, Stand, Step, leaves, moments, rests_there, scene}
 use Rattle.cli_sessions.proofs.StopLemmas.{Stays, rests_settled, stays_on, stops_on}
@@ -62,7 +64,7 @@ use Rattle.cli_serving.specs.Went.{LineDone}
 use Rattle.cli_serving.proofs.OwnerTurns.{At, at_line, at_read, at_start, at_whole, stands_before}
 use Rattle.cli_serving.proofs.ReadBetween.{commands_behind}
 use Rattle.cli_serving.proofs.ReadOn.{Reads, StaysSame, read_nothing, reads_then, step_on}
-use Rattle.cli_serving.proofs.SeatTurns.{MayFailSeat, seat_fails, seat_may_fail}
+use Rattle.cli_serving.proofs.SeatTurns.{IsAmiss, MayFailSeat, seat_amiss, seat_may_fail}
 use Rattle.cli_serving.proofs.TurnsServed.{Served, seated, seats_honest, serving, turns_served}
 
 -- a disk that rests still rests when it was only read
@@ -257,6 +259,7 @@ module _ (R D : Type 0) (left : R → Option (List ℕ)) (random_faults : R → 
             keeps = keeps_at asked so.given so.drawn so.now y at_last;
           };
           kept = kept_at asked so.given so.drawn so.now y at_last;
+          answered = so.answered;
           prints = so.answers so.now.journal (valid_at asked so.given so.drawn so.now y at_last) (prefix_same so.now.journal);
         }
 
@@ -287,6 +290,7 @@ module _ (R D : Type 0) (left : R → Option (List ℕ)) (random_faults : R → 
     last = spell_plain_reply reply;
     served = all_served (first ++ ToSeat ask ∷ []) asked (text ++ spell_plain_reply reply) later y y before after (SeatsTurn ask reply went seat reads)
         (read_nothing R D left random_faults shown disk_faults may_leave moment since present counted y);
+    answered_first = (reached first asked text sessions x went).so.answered;
     answers_first = λ honest.
         let so = (reached first asked text sessions x went).so in
         so.answers so.now.journal (valid_at asked so.given so.drawn so.now x so.stands) (prefix_same so.now.journal) (fewer_turns so.now.journal first (ToSeat ask) honest);
@@ -302,26 +306,42 @@ module _ (R D : Type 0) (left : R → Option (List ℕ)) (random_faults : R → 
     prints = printed;
   }
 
-  -- a fault that the disk and memory aren't to blame for comes of a key that isn't honest
-  pub amiss_served : (first : List Turn) (asked : List Request) (text : List ℕ) (sessions : List SessionView) (x y : X) (ask : SeatAsk) (met : ClientFault) (before after : Option (List ℕ)) →
-      Went first asked text sessions x → Sees x y → FailsSeat (shown x.2) ask sessions met → (IsFromOutside met → ⊥) → WhereBothTold before after (λ b a. a ≡ b ++ text) →
-      ServesAmiss version_limits key m first asked (seen_at y before after) (may_leave y.2) (KeptTo y)
-  unfolding opened reached has_served
-  amiss_served first asked text sessions x y ask met before after went reads fails inside printed =
-      let so = (reached first asked text sessions x went).so in
-      let valid = valid_at asked so.given so.drawn so.now x so.stands in
-      let whole = rests_at asked so.given so.drawn so.now x so.stands in
-      record {
-        all = record {
-          text = text;
-          served = has_served first asked text sessions x so y reads before after;
-          prints = printed;
-        };
-        amiss = λ honest.
-            inside (seat_fails key so.now.journal whole.shows.0 whole.shows.2 (shown x.2) whole.shows.1 so.seats sessions so.are
-            (seats_honest version_limits g first so.drawn so.now so.now.journal so.seats valid (prefix_same so.now.journal) honest (so.seats_are []))
-            ask met fails);
-      }
+  -- a fault that the disk and memory aren't to blame for comes of a line that shows, and of a key that isn't honest
+  module _ (first : List Turn) (asked : List Request) (text : List ℕ) (sessions : List SessionView) (x y : X) (ask : SeatAsk) (met : ClientFault) (before after : Option (List ℕ))
+      (went : Went first asked text sessions x) (reads : Sees x y) (fails : FailsSeat (shown x.2) ask sessions met) (inside : IsFromOutside met → ⊥)
+      (printed : WhereBothTold before after (λ b a. a ≡ b ++ text)) where
+    abbrev up_to : Served X version_limits key Here left_of start g first asked text sessions x
+    up_to = (reached first asked text sessions x went).so
+
+    abbrev whole_up_to : RestsAt key up_to.now.journal (shown x.2) (may_leave x.2)
+    whole_up_to = rests_at asked up_to.given up_to.drawn up_to.now x up_to.stands
+
+    abbrev is_amiss : IsAmiss key up_to.now.journal whole_up_to.shows.0 whole_up_to.shows.2 (shown x.2) whole_up_to.shows.1 up_to.seats sessions up_to.are ask met
+    is_amiss = seat_amiss key up_to.now.journal whole_up_to.shows.0 whole_up_to.shows.2 (shown x.2) whole_up_to.shows.1 up_to.seats sessions up_to.are ask met fails inside
+
+    pub amiss_served : (n : ℕ) × (ask ≡ Shows n) × ServesAmiss met n version_limits key m first asked (seen_at y before after) (may_leave y.2) (KeptTo y)
+    unfolding opened reached has_served
+    amiss_served =
+        let is = is_amiss in (
+          is.n,
+          is.ask_is,
+          record {
+            all = record {
+              text = text;
+              served = has_served first asked text sessions x up_to y reads before after;
+              prints = printed;
+            };
+            seat = is.seat;
+            seat_is = λ rest. ap (λ (l : List Seat). seat_at l is.n) (up_to.seats_are rest) ∙ is.seat_is;
+            all_read = is.all_read;
+            fails = is.fails;
+            dishonest = is.dishonest;
+            amiss = λ honest.
+                is.dishonest
+                (seats_honest version_limits g first up_to.drawn up_to.now up_to.now.journal up_to.seats (valid_at asked up_to.given up_to.drawn up_to.now x up_to.stands) (prefix_same up_to.now.journal) honest (up_to.seats_are [])
+                is.seat (seat_in up_to.seats is.n is.seat is.seat_is));
+          },
+        )
 
   -- and whatever the keys are, it isn't that there is no store, or that a key is wrong
   pub may_fail : (first : List Turn) (asked : List Request) (text : List ℕ) (sessions : List SessionView) (x : X) (ask : SeatAsk) (met : ClientFault) →
@@ -436,6 +456,10 @@ module _ (R D : Type 0) (left : R → Option (List ℕ)) (random_faults : R → 
           subst (λ (h : Going). IsPrefix block (asked_of version_limits h task)) (sym (there rest))
           (front_line version_limits (before_last rest) task commands block replies stands_now is_asked (more, told))
 
+      answered_first : (rest : List ℕ) → AnswersTurns key version_limits (serving (from rest)) first text
+      answered_first rest =
+          subst (λ (bytes : List ℕ). AnswersTurns key version_limits (serving (with_draws g bytes)) first text) (sym (drawn_split rest)) (so.answered (joined behind.more ++ rest))
+
       answers_first : HaveHonestKeys now.journal (first ++ ToOwner task ∷ []) → (rest : List ℕ) → served_text version_limits (serving (from rest)) first ≡ text
       answers_first honest rest =
           ap (λ (bytes : List ℕ). served_text version_limits (serving (with_draws g bytes)) first) (drawn_split rest)
@@ -447,7 +471,7 @@ module _ (R D : Type 0) (left : R → Option (List ℕ)) (random_faults : R → 
       abbrev asked : List Request
       asked = first_asked ++ some
 
-      serves_to : (seen : Seen) (Prints : List ℕ → List Reply → Type 0) → Prints text replies → ServesTo version_limits m turns asked seen Prints
+      serves_to : (seen : Seen) (Prints : List ℕ → List Reply → Type 0) → Prints text replies → ServesTo version_limits key m turns asked seen Prints
       unfolding opened
       serves_to seen Prints printed = record {
         first = first;
@@ -471,6 +495,7 @@ module _ (R D : Type 0) (left : R → Option (List ℕ)) (random_faults : R → 
         goes_first = goes_first;
         stood = λ rest. prefix_trans some block (asked_of version_limits (script_going version_limits (from rest) first_asked) task) (others, sym block_is) (front_now rest);
         replied = λ rest. ap (λ (h : Going). script_replies version_limits h some) (there rest) ∙ replied_now rest;
+        answered = answered_first;
         answers = answers_first;
         prints = printed;
       }
@@ -508,7 +533,7 @@ module _ (R D : Type 0) (left : R → Option (List ℕ)) (random_faults : R → 
         accepted : answer (limits_in y.0) now.journal y.0.journal.has_epoch last ≡ None → answer version_limits now.journal now.begun last ≡ None
         accepted is = accepted_there version_limits key now (place y) last next.there is
 
-        serves_next : answer version_limits now.journal now.begun last ≡ None → ServesNext version_limits m turns asked seen
+        serves_next : answer version_limits now.journal now.begun last ≡ None → ServesNext version_limits key m turns asked seen
         unfolding opened serves_to
         serves_next is = record {
           to = serves_to seen (PrintsAllOf seen) (λ b a is_b is_a. printed b a is_b is_a ∙ append_assoc b text (spell_replies replies));

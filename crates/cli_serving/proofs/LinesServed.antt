@@ -15,6 +15,7 @@ use Rattle.script_text.specs.Seats.SeatAsk.{Begins, Pins, Shows, Steps}
 use Rattle.script_text.specs.Seats.Turn.{ToSeat}
 use Rattle.store_owner.specs.declared.apply_fault.ApplyFault.{ApplyFault}
 use Rattle.store_owner.specs.declared.apply_fault.ApplyFault.TheVariants as faults
+use Rattle.cli_base.specs.Reading.{reading_status}
 use Rattle.cli_base.specs.Input.{TakesLines}
 use Rattle.cli_base.specs.Lines.{InputLine, IsUnended, LineState, bytes_ahead, lines_ahead}
 use Rattle.cli_base.specs.Lines.InputLine.{TooLong, Whole}
@@ -31,7 +32,7 @@ use Rattle.cli_sessions.specs.Sessions.{script_status}
 use Rattle.cli_sessions.specs.Taking.{AreTaken, TakesNothing, TakesOne}
 use Rattle.cli_sessions.specs.declared.script.ScriptFault.{ScriptFault}
 use Rattle.cli_sessions.specs.declared.script.ScriptFault.TheVariants.{Applying, BadLine, OutOfMemory, ReadFault, WriteFault}
-use Rattle.cli_serving.specs.Lines.{AskTurns, BeginsLines, HasBadTurn, IsBadTurn, ReadsAll, ReadsAllTyped, reading_status, serve_status, turn_ended}
+use Rattle.cli_serving.specs.Lines.{AskTurns, BeginsLines, HasBadTurn, IsBadTurn, ReadsAll, ReadsAllTyped, serve_status, turn_ended}
 use Rattle.cli_serving.specs.Promises.Serve.{IsOfReading}
 use Rattle.cli_serving.specs.Seating.{FailsSeat}
 use Rattle.cli_serving.specs.Taking.{NumbersBadTurn, TakenByTurns, TakesTurns}

@@ -18,10 +18,11 @@ use Rattle.script_text.specs.Seats.{SeatAsk}
 use Rattle.script_text.specs.Seats.SeatAsk.{Begins, Pins, Shows, Steps}
 use Rattle.script_text.specs.declared.seats.SeatRefusal.TheVariants as refusals
 use Rattle.session_laws.specs.Answers.{RepliesTo}
+use Rattle.session_laws.specs.Replying.{AnswersAsk, ShowsSeat, ShowsTo, pinned_view}
 use Rattle.session_laws.specs.Seats.{PlainReply, Begun, HasPinned, HasRead, Refused, Seat, changed_at, new_seat, repinned, seat_at, seat_reply, seats_then, show_reply, stepped, with_seat}
 use Rattle.session_laws.specs.Serving.{IsHonestKey}
 use Rattle.session_laws.specs.Sessions.{IsFromOutside, IsSeatOf}
-use Rattle.session_laws.proofs.SessionsSeated.{replies_so, seat_batch, seat_begun, seat_can_show, seat_counts, seat_grows, seat_log, seat_pinned, seat_stepped}
+use Rattle.session_laws.proofs.SessionsSeated.{replies_so, seat_batch, seat_begun, seat_can_show, seat_counts, seat_grows, seat_log, seat_pinned, seat_stepped, seat_view}
 use Rattle.cli_serving.specs.Seating.{FailsSeat, IsNoRefusal, SeatWent, ShowsOne}
 use Rattle.cli_serving.proofs.ViewsFail.{view_fails}
 
@@ -220,6 +221,21 @@ module _ (owner : List ℕ) (m : Journal) (bytes : List ℕ) (whole : StandsWhol
   shown_so seat session is all honest reply (inr (refusals.NotRead, why, told_so)) = absurd why
   shown_so seat session is all honest reply (inr (refusals.TooMany, why, told_so)) = absurd why
 
+  -- for every key
+  shown_told : (seat : Seat) (session : SessionView) → IsSeatOf owner m seat session → seat.read ≡ seat.pinned → (reply : PlainReply) → ShowsOne told reply session
+      → RepliesTo (pinned_view owner m seat) reply
+  shown_told seat session is all reply (inl view) =
+      let shows = seat_can_show owner m bytes whole seat session is in
+      subst (λ z. RepliesTo z reply) (sym (sym (seat_view owner m bytes whole seat session is all) ∙ view.1 bytes is_told shows)) view.2
+  shown_told seat session is all reply (inr (refusals.NoHolder, why, told_so)) =
+      let none = why bytes is_told (seat_can_show owner m bytes whole seat session is) in
+      subst (λ z. RepliesTo z reply) (sym (sym (seat_view owner m bytes whole seat session is all) ∙ none.1)) told_so
+  shown_told seat session is all reply (inr (refusals.WrongKey, why, told_so)) =
+      subst (λ z. RepliesTo z reply) (sym (sym (seat_view owner m bytes whole seat session is all) ∙ why bytes is_told (seat_can_show owner m bytes whole seat session is))) told_so
+  shown_told seat session is all reply (inr (refusals.NoSession, why, told_so)) = absurd why
+  shown_told seat session is all reply (inr (refusals.NotRead, why, told_so)) = absurd why
+  shown_told seat session is all reply (inr (refusals.TooMany, why, told_so)) = absurd why
+
   not_read : (seat : Seat) → seat.read < seat.pinned → show_reply m seat ≡ Refused refusals.NotRead
   unfolding show_reply
   not_read seat less = let test : nat_lt seat.read seat.pinned ≡ true = grind (arith, nat_tests) in rw test refl
@@ -262,6 +278,32 @@ module _ (owner : List ℕ) (m : Journal) (bytes : List ℕ) (whole : StandsWhol
   seat_replies honest (Pins n) reply new went = (pins_so n reply new went).0
   seat_replies honest (Shows n) reply new went = shows_so honest n reply new went
 
+  shows_told : (n : ℕ) (reply : PlainReply) (new : List SessionView) → SeatWent told (Shows n) sessions reply new → ShowsTo owner m (seat_at seats n) reply
+  shows_told n reply new (inl none) = subst (λ (o : Option Seat). ShowsTo owner m o reply) (sym (none_found owner m seats sessions n are none.0)) none.1.0
+  shows_told n reply new (inr some) =
+      let at = found owner m seats sessions n some.0 are some.1 in
+      let seat : Seat = at.0 in
+      let is = at.3 in
+      let read = seat_counts owner m seat some.0 is in
+      let pinned = is.pinned in
+      let within = is.within in
+      let shown : ShowsSeat owner m seat reply =
+      ⊎_elim
+      (λ few. record { unread = λ less. few.1.0; all_read = λ all. absurd (let none : ⊥ = omega (arith, few.0, read, pinned, all) in none) })
+      (λ all.
+      let done : seat.read ≡ seat.pinned = omega (arith, all.0, read, pinned, within.read) in
+      record { unread = λ less. absurd (let none : ⊥ = omega (arith, done, less) in none); all_read = λ most. shown_told seat some.0 is done reply all.2 })
+      some.2
+      in
+      subst (λ (o : Option Seat). ShowsTo owner m o reply) (sym at.1) shown
+
+  -- or whatever they are
+  pub seat_answers : (ask : SeatAsk) (reply : PlainReply) (new : List SessionView) → SeatWent told ask sessions reply new → AnswersAsk owner m seats ask reply
+  seat_answers (Begins holder key) reply new went = (begins_so holder key reply new went).0
+  seat_answers (Steps n) reply new went = (steps_so n reply new went).0
+  seat_answers (Pins n) reply new went = (pins_so n reply new went).0
+  seat_answers (Shows n) reply new went = shows_told n reply new went
+
   -- ---- a fault
 
   fails_outside : (met : ClientFault) (wanted : Result (List Line) Failure) (reply : PlainReply) → IsNoRefusal met → IsFailure met wanted → RepliesTo wanted reply → IsFromOutside met
@@ -296,11 +338,21 @@ module _ (owner : List ℕ) (m : Journal) (bytes : List ℕ) (whole : StandsWhol
       let at = found owner m seats sessions n fails.0 are fails.1 in
       fails.4 bytes is_told (seat_can_show owner m bytes whole at.0 fails.0 at.3)
 
-  pub seat_fails : Honest → (ask : SeatAsk) (met : ClientFault) → FailsSeat told ask sessions met → IsFromOutside met
-  seat_fails honest (Begins holder key) met fails = begin_fails holder key met fails
-  seat_fails honest (Steps n) met fails = step_fails n met fails
-  seat_fails honest (Pins n) met fails = pin_fails n met fails
-  seat_fails honest (Shows n) met fails =
+  -- one that the disk and memory aren't to blame for is of a line that shows
+  pub record IsAmiss (ask : SeatAsk) (met : ClientFault) : Type 0 where
+    pub n : ℕ
+    pub ask_is : ask ≡ Shows n
+    pub seat : Seat
+    pub seat_is : seat_at seats n ≡ Some seat
+    pub all_read : seat.pinned ≤ seat.read
+    pub fails : IsFailure met (pinned_view owner m seat)
+    pub dishonest : IsHonestKey m seat.holder seat.key → ⊥
+
+  pub seat_amiss : (ask : SeatAsk) (met : ClientFault) → FailsSeat told ask sessions met → (IsFromOutside met → ⊥) → IsAmiss ask met
+  seat_amiss (Begins holder key) met fails inside = absurd (inside (begin_fails holder key met fails))
+  seat_amiss (Steps n) met fails inside = absurd (inside (step_fails n met fails))
+  seat_amiss (Pins n) met fails inside = absurd (inside (pin_fails n met fails))
+  seat_amiss (Shows n) met fails inside =
       let at = found owner m seats sessions n fails.0 are fails.1 in
       let seat : Seat = at.0 in
       let is = at.3 in
@@ -308,8 +360,17 @@ module _ (owner : List ℕ) (m : Journal) (bytes : List ℕ) (whole : StandsWhol
       let pinned = is.pinned in
       let within = is.within in
       let done : seat.read ≡ seat.pinned = omega (arith, fails.2, read, pinned, within.read) in
-      fails_outside met (view_with fails.0.bundle (Ok fails.0.log.given)) (show_reply m seat) fails.3 (show_fails n met fails)
-      (replies_so owner m bytes whole seat fails.0 is done (honest seat at.2))
+      record {
+        n = n;
+        ask_is = refl;
+        seat = seat;
+        seat_is = at.1;
+        all_read = omega (arith, done);
+        fails = subst (IsFailure met) (seat_view owner m bytes whole seat fails.0 is done) (show_fails n met fails);
+        dishonest = λ honest.
+            inside (fails_outside met (view_with fails.0.bundle (Ok fails.0.log.given)) (show_reply m seat) fails.3 (show_fails n met fails)
+            (replies_so owner m bytes whole seat fails.0 is done honest));
+      }
 
   -- ---- a fault, whatever the keys are
 

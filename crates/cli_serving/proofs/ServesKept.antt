@@ -2,6 +2,8 @@
 use Rattle.std.proofs.Common.{⊎_elim, inl, inr, ℕ, List, ◌++◌}
 use Rattle.cry_base.specs.Requests.{Request}
 use Rattle.cry_base.specs.declared.limits.Limits.{Limits}
+use Rattle.log_visits.specs.declared.fault.ClientFault.{ClientFault}
+use Rattle.log_visits.specs.declared.fault.ClientFault.TheVariants as client
 use Rattle.public_fold.specs.Journal.{Journal}
 use Rattle.script_text.specs.Seats.{Turn}
 use Rattle.cli_base.specs.declared.status.Status.{Status}
@@ -20,6 +22,7 @@ module _ (limits : Limits) (key : List ℕ) (m : Journal) (seen : Seen) (may_lea
     draws = served.draws;
     leaves = served.leaves;
     kept = more served.session.now served.kept;
+    answered = served.answered;
     prints = served.prints;
   }
 
@@ -34,12 +37,21 @@ module _ (limits : Limits) (key : List ℕ) (m : Journal) (seen : Seen) (may_lea
     first = serves.first;
     last = serves.last;
     served = served_more turns asked (serves.first ++ serves.last) serves.served;
+    answered_first = serves.answered_first;
     answers_first = serves.answers_first;
     prints = serves.prints;
   }
 
-  abbrev amiss_more : (turns : List Turn) (asked : List Request) → ServesAmiss limits key m turns asked seen may_leave KeepsTo → ServesAmiss limits key m turns asked seen may_leave More
-  amiss_more turns asked serves = record { all = all_more turns asked serves.all; amiss = serves.amiss }
+  abbrev amiss_more : (met : ClientFault) (n : ℕ) (turns : List Turn) (asked : List Request) → ServesAmiss met n limits key m turns asked seen may_leave KeepsTo → ServesAmiss met n limits key m turns asked seen may_leave More
+  amiss_more met n turns asked serves = record {
+    all = all_more turns asked serves.all;
+    seat = serves.seat;
+    seat_is = serves.seat_is;
+    all_read = serves.all_read;
+    fails = serves.fails;
+    dishonest = serves.dishonest;
+    amiss = serves.amiss;
+  }
 
   abbrev last_more : (turns : List Turn) (asked : List Request) → ServesLast limits key m turns asked seen may_leave KeepsTo → ServesLast limits key m turns asked seen may_leave More
   last_more turns asked serves = record { to = serves.to; draws = serves.draws; leaves = serves.leaves; kept = more serves.to.session.now serves.kept }
@@ -90,8 +102,8 @@ module _ (limits : Limits) (key : List ℕ) (m : Journal) (seen : Seen) (may_lea
       serves
   serves_more statuses.NotAStore turns asked serves = absurd serves
   serves_more statuses.WrongKey turns asked serves = absurd serves
-  serves_more (statuses.Damaged at) turns asked serves = (serves.0, serves.1, serves.2, amiss_more serves.0 asked serves.3)
-  serves_more (statuses.Tampered batch at) turns asked serves = (serves.0, serves.1, serves.2, amiss_more serves.0 asked serves.3)
+  serves_more (statuses.Damaged at) turns asked serves = (serves.0, serves.1, serves.2, amiss_more (client.Damaged at) serves.1 serves.0 asked serves.3)
+  serves_more (statuses.Tampered batch at) turns asked serves = (serves.0, serves.1, serves.2, amiss_more (client.Tampered batch at) serves.1 serves.0 asked serves.3)
   serves_more statuses.Usage turns asked serves = absurd serves
   serves_more statuses.NotBlank turns asked serves = absurd serves
   serves_more (statuses.NoHolder known) turns asked serves = absurd serves

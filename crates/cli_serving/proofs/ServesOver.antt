@@ -12,7 +12,8 @@ use Rattle.log_visits.specs.declared.fault.ClientFault.{ClientFault}
 use Rattle.log_visits.specs.declared.fault.ClientFault.TheVariants as client
 use Rattle.public_fold.specs.Journal.{Journal}
 use Rattle.read_steps.specs.Steps.{SessionView}
-use Rattle.script_text.specs.Seats.{Turn}
+use Rattle.script_text.specs.Seats.{SeatAsk, Turn}
+use Rattle.script_text.specs.Seats.SeatAsk.{Shows}
 use Rattle.script_text.specs.Seats.Turn.{ToOwner, ToSeat}
 use Rattle.session_laws.specs.Seats.{PlainReply}
 use Rattle.session_laws.specs.Serving.{spell_plain_reply}
@@ -21,6 +22,7 @@ use Rattle.store_owner.specs.Owned.{OwnerView}
 use Rattle.store_owner.specs.Sessions.{StandsAt}
 use Rattle.store_owner.specs.declared.apply_fault.ApplyFault.{ApplyFault}
 use Rattle.store_owner.specs.declared.apply_fault.ApplyFault.TheVariants as faults
+use Rattle.cli_base.specs.Reading.{reading_status}
 use Rattle.cli_base.specs.declared.status.Status.{Status}
 use Rattle.cli_base.specs.declared.status.Status.TheVariants as statuses
 use Rattle.cli_sessions.specs.Script.{Answered, PrintsCut}
@@ -31,7 +33,7 @@ use Rattle.cli_sessions.specs.declared.script.ScriptFault.{ScriptFault}
 use Rattle.cli_sessions.specs.declared.script.ScriptFault.TheVariants as script
 use Rattle.cli_sessions.proofs.RunLemmas.{Fails, IsCounted, IsPresent, Stand, Step}
 use Rattle.cli_sessions.proofs.ScriptLemmas.{same_told}
-use Rattle.cli_serving.specs.Lines.{reading_status, serve_status}
+use Rattle.cli_serving.specs.Lines.{serve_status}
 use Rattle.cli_serving.specs.Seating.{SeatWent}
 use Rattle.cli_serving.specs.Serves.{PrintsFrontOf, Serves, ServesAll, ServesAmiss, ServesCut, ServesLast, ServesShort, ServesUndrawn, ServesUnwritten}
 use Rattle.cli_serving.specs.Turned.{NoTurn}
@@ -135,10 +137,13 @@ module _ (R D : Type 0) (left : R → Option (List ℕ)) (random_faults : R → 
         ends.first asked ends.text ends.sessions ends.x end before after ends.turned ends.read ends.ends.1
 
     seat_amiss : (met : ClientFault) (turns : List Turn) (asked : List Request) (ends : EndsInSeats (Err (serve.Reading met)) turns asked) → (IsFromOutside met → ⊥)
-        → ServesAmiss version_limits key m ends.first asked seen (may_leave end.2) (KeptTo end)
+        → (first : List Turn) × (n : ℕ) × (turns ≡ first ++ ToSeat (Shows n) ∷ []) × ServesAmiss met n version_limits key m first asked seen (may_leave end.2) (KeptTo end)
     seat_amiss met turns asked ends inside =
+        let is =
         amiss_served R D left random_faults shown disk_faults may_leave moment since present counted start key m stands durable first_shown first_kept
         ends.first asked ends.text ends.sessions ends.x end ends.ask met before after ends.turned ends.read ends.ends.0 inside ends.ends.1
+        in
+        (ends.first, is.0, ends.turns_are ∙ ap (λ (ask : SeatAsk). ends.first ++ ToSeat ask ∷ []) is.1, is.2)
 
     seat_may : (met : ClientFault) (turns : List Turn) (asked : List Request) → EndsInSeats (Err (serve.Reading met)) turns asked → MayFailSeat met
     seat_may met turns asked ends =
@@ -151,8 +156,8 @@ module _ (R D : Type 0) (left : R → Option (List ℕ)) (random_faults : R → 
     reading_ends : (met : ClientFault) (turns : List Turn) (asked : List Request) → EndsInSeats (Err (serve.Reading met)) turns asked → EndsSo (reading_status met) turns asked
     reading_ends client.NotAStore turns asked ends = absurd (seat_may client.NotAStore turns asked ends)
     reading_ends client.WrongKey turns asked ends = absurd (seat_may client.WrongKey turns asked ends)
-    reading_ends (client.Damaged at) turns asked ends = (ends.first, ToSeat ends.ask, ends.turns_are, seat_amiss (client.Damaged at) turns asked ends (λ none. none))
-    reading_ends (client.Tampered batch at) turns asked ends = (ends.first, ToSeat ends.ask, ends.turns_are, seat_amiss (client.Tampered batch at) turns asked ends (λ none. none))
+    reading_ends (client.Damaged at) turns asked ends = seat_amiss (client.Damaged at) turns asked ends (λ none. none)
+    reading_ends (client.Tampered batch at) turns asked ends = seat_amiss (client.Tampered batch at) turns asked ends (λ none. none)
     reading_ends (client.NoHolder known) turns asked ends = absurd (seat_may (client.NoHolder known) turns asked ends)
     reading_ends client.Unseen turns asked ends = absurd (seat_may client.Unseen turns asked ends)
     reading_ends client.DiskFault turns asked ends = inr (inl (ends.first, ToSeat ends.ask, ends.turns_are, seat_failed client.DiskFault turns asked ends))

@@ -1,5 +1,5 @@
 -- Where no line of `serve` is the owner's, they only read the disk, and nothing is drawn.
-use Rattle.std.proofs.Common.{◌≡◌, ◌≤◌, ⊎_elim, inl, inr, ℕ, List, [], ◌∷◌, ◌++◌, Option, Result, Ok, Err, arith, refl, subst, ◌∙◌}
+use Rattle.std.proofs.Common.{⊎_elim, inl, inr, ℕ, List, [], ◌∷◌, ◌++◌, Option, Result, Ok, Err, arith, refl, subst, ◌∙◌}
 use Rattle.cry_base.specs.Requests.{Request}
 use Rattle.cry_base.specs.declared.commands.Reply.{Reply}
 use Rattle.cry_base.proofs.Members.{In-append}

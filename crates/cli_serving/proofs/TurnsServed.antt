@@ -24,10 +24,12 @@ use Rattle.script_text.specs.Seats.{SeatAsk, Turn}
 use Rattle.script_text.specs.Seats.SeatAsk.{Begins}
 use Rattle.script_text.specs.Seats.Turn.{ToOwner, ToSeat}
 use Rattle.script_text.specs.Tasks.{Task}
+use Rattle.session_laws.specs.Replying.{AnswersAsk, AnswersTurn, AnswersTurns}
 use Rattle.session_laws.specs.Seats.{PlainReply, Seat, seat_reply, seats_then}
 use Rattle.session_laws.specs.Serving.{HaveHonestKeys, IsHonestKey, Serving, served_text, served_then, spell_plain_reply, turn_text, turn_then}
 use Rattle.session_laws.proofs.HoldersStay.{honest_front}
 use Rattle.session_laws.proofs.KeysHonest.{served_keys}
+use Rattle.session_laws.proofs.LinesReplied.{answered_on}
 use Rattle.session_laws.proofs.SeatsForward.{script_grows, stands_follow, text_follows}
 use Rattle.store_owner.specs.Drawing.{AreKeys, joined}
 use Rattle.store_owner.specs.Sessions.{with_draws}
@@ -36,7 +38,7 @@ use Rattle.cli_serving.specs.Seating.{SeatWent}
 use Rattle.cli_serving.specs.Served.{turn_asks, turns_ask}
 use Rattle.cli_serving.specs.Turned.{NoTurn, OwnersTurn, SeatsTurn, Turned}
 use Rattle.cli_serving.proofs.LinesGo.{LineGoes}
-use Rattle.cli_serving.proofs.SeatTurns.{AreSeats, seat_replies, seats_behind, seats_grow}
+use Rattle.cli_serving.proofs.SeatTurns.{AreSeats, seat_answers, seat_replies, seats_behind, seats_grow}
 
 -- one line more
 pub text_more : (limits : Limits) (s : Serving) (turns : List Turn) (t : Turn) → served_text limits s (turns ++ t ∷ []) ≡ served_text limits s turns ++ turn_text limits (served_then limits s turns) t
@@ -55,6 +57,10 @@ asked_more limits s (u ∷ turns) t =
     let next : Serving = turn_then limits s u in
     ap (λ (rs : List Request). turn_asks limits s u ++ rs) (asked_more limits next turns t)
     ∙ sym (append_assoc (turn_asks limits s u) (turns_ask limits next turns) (turn_asks limits (served_then limits next turns) t))
+
+pub answered_more : (owner : List ℕ) (limits : Limits) (s : Serving) (turns : List Turn) (t : Turn) (text last : List ℕ) → AnswersTurns owner limits s turns text → AnswersTurn owner limits (served_then limits s turns) t last
+    → AnswersTurns owner limits s (turns ++ t ∷ []) (text ++ last)
+answered_more owner limits s turns t text last here one = answered_on owner limits s turns (t ∷ []) text last here (last, [], sym (append-nil last), one, refl)
 
 -- `serve` begins where the owner's session does, with no seat
 abbrev pub serving : Going → Serving
@@ -91,6 +97,7 @@ module _ (X : Type 0) (limits : Limits) (key : List ℕ) (At : List Request → 
     pub seats : List Seat
     pub seats_are : (rest : List ℕ) → (served_then limits (serving (with_draws g (joined drawn ++ rest))) turns).seats ≡ seats
     pub are : AreSeats key now.journal seats sessions
+    pub answered : (rest : List ℕ) → AnswersTurns key limits (serving (with_draws g (joined drawn ++ rest))) turns text
     pub answers : (final : Journal) → IsValid final → IsPrefix now.journal final → HaveHonestKeys final turns
         → (rest : List ℕ) → served_text limits (serving (with_draws g (joined drawn ++ rest))) turns ≡ text
 
@@ -126,6 +133,7 @@ module _ (X : Type 0) (limits : Limits) (key : List ℕ) (At : List Request → 
     seats = [];
     seats_are = λ rest. refl;
     are = tt;
+    answered = λ rest. refl;
     answers = λ final valid front honest rest. refl;
   }
 
@@ -201,6 +209,12 @@ module _ (X : Type 0) (limits : Limits) (key : List ℕ) (At : List Request → 
             ∙ ap (λ (s : Serving). (served_then limits s turns).seats) (split rest)
             ∙ so.seats_are (joined one.drawn ++ rest);
         are = subst (λ (j : Journal). AreSeats key j so.seats sessions) grown.1 (seats_grow key so.now.journal grown.0 so.seats sessions so.are);
+        answered = λ rest.
+            answered_more key limits (from rest) turns (ToOwner task) text (flat_map spell_reply replies)
+            (subst (λ (s : Serving). AnswersTurns key limits s turns text) (sym (split rest)) (so.answered (joined one.drawn ++ rest)))
+            (sym (ap (λ (rs : List Request). flat_map spell_reply (script_replies limits (served_then limits (from rest) turns).going rs)) (block_is rest)
+            ∙ ap (λ (at : Going). flat_map spell_reply (script_replies limits at block)) (here rest)
+            ∙ ap (λ (rs : List Reply). flat_map spell_reply rs) (one.replied rest)));
         answers = λ final valid front honest rest.
             text_more limits (from rest) turns (ToOwner task)
             ∙ ap (λ (s : Serving). served_text limits s turns ++ turn_text limits (served_then limits (from rest) turns) (ToOwner task)) (split rest)
@@ -240,6 +254,15 @@ module _ (X : Type 0) (limits : Limits) (key : List ℕ) (At : List Request → 
             ∙ ap (λ (j : Journal). seats_then j (served_then limits (from rest) turns).seats ask) (journal_is rest)
             ∙ ap (λ (l : List Seat). seats_then m l ask) (so.seats_are rest);
         are = seats_behind key m there.0 there.2 (shown x) there.1 so.seats sessions so.are ask reply later went;
+        answered = λ rest.
+            let at : Serving = served_then limits (from rest) turns in
+            let told = seat_answers key m there.0 there.2 (shown x) there.1 so.seats sessions so.are ask reply later went in
+            answered_more key limits (from rest) turns (ToSeat ask) text (spell_plain_reply reply) (so.answered rest) (
+              reply,
+              subst (λ (j : Journal). AnswersAsk key j at.seats ask reply) (sym (journal_is rest))
+                  (subst (λ (l : List Seat). AnswersAsk key m l ask reply) (sym (so.seats_are rest)) told),
+              refl,
+            );
         answers = λ final valid front honest rest.
             let fewer_honest = fewer final turns (ToSeat ask) honest in
             let told = seat_replies key m there.0 there.2 (shown x) there.1 so.seats sessions so.are

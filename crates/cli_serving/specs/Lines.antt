@@ -1,14 +1,13 @@
 -- The lines of `serve` behind the first, and how it may end. This project's own, docs/PROGRAM.md, "The program".
 use Rattle.std.specs.Prelude.{◌≡◌, ◌≤◌, ◌⊎◌, ◌+◌, ◌++◌, ℕ, List, [], ◌∷◌, length, map, Option, Some, None, Result, Ok, Err}
 use Rattle.cry_base.specs.Sets.{In}
-use Rattle.log_visits.specs.declared.fault.ClientFault.{ClientFault}
-use Rattle.log_visits.specs.declared.fault.ClientFault.TheVariants as client
 use Rattle.script_text.specs.Cutting.{IsOneLine}
 use Rattle.script_text.specs.Seats.{Turn, turn_in}
 use Rattle.script_text.specs.Seats.Turn.{ToOwner}
 use Rattle.script_text.specs.Tasks.{Task}
 use Rattle.cli_base.specs.Lines.{AreOfLines, InputLine, input_limit, lines_of}
 use Rattle.cli_base.specs.Lines.InputLine.{Whole, TooLong}
+use Rattle.cli_base.specs.Reading.{reading_status}
 use Rattle.cli_base.specs.declared.status.Status.{Status}
 use Rattle.cli_base.specs.declared.status.Status.TheVariants as statuses
 use Rattle.cli_running.specs.Running.{lines_typed}
@@ -70,18 +69,7 @@ ReadsAllTyped turns typed left =
     ((turns ≡ []) × (front : List ℕ) × IsOneLine front × (length front ≤ input_limit) × (typed ≡ front ++ left))
     ⊎ ((first behind : List ℕ) × AreOfLines 1 first × (typed ≡ first ++ behind) × ReadsAll turns (lines_typed typed) behind left)
 
--- how the program ends where a session's reading fails
-abbrev pub reading_status : ClientFault → Status
-reading_status client.NotAStore = statuses.NotAStore
-reading_status client.WrongKey = statuses.WrongKey
-reading_status (client.Damaged at) = statuses.Damaged at
-reading_status (client.Tampered batch at) = statuses.Tampered batch at
-reading_status (client.NoHolder known) = statuses.NoHolder known
-reading_status client.Unseen = statuses.Unseen
-reading_status client.DiskFault = statuses.DiskFault
-reading_status client.OutOfMemory = statuses.OutOfMemory
-
--- and where its lines do
+-- how the program ends where these lines do
 abbrev pub serve_status : Result (Unit {0}) ServeFault → Status
 serve_status (Ok _) = statuses.Done
 serve_status (Err (serve.Script fault)) = script_status fault

@@ -7,6 +7,7 @@ use Rattle.journal_bytes.specs.Script.{opened}
 use Rattle.public_fold.specs.Journal.{Journal}
 use Rattle.script_text.specs.Seats.{Turn}
 use Rattle.script_text.specs.Seats.Turn.{ToOwner, ToSeat}
+use Rattle.session_laws.specs.Replying.{AnswersTurns}
 use Rattle.session_laws.specs.Serving.{HaveHonestKeys, Serving, served_text, served_then, turn_then}
 use Rattle.store_owner.specs.Drawing.{joined}
 use Rattle.cli_sessions.specs.Sessions.{DrawsNext, LeavesAt, Seen, SessionOver}
@@ -24,8 +25,8 @@ unfoldable pub turns_ask : Limits → Serving → List Turn → List Request
 turns_ask limits s [] = []
 turns_ask limits s (t ∷ turns) = turn_asks limits s t ++ turns_ask limits (turn_then limits s t) turns
 
--- The owner's session over a journal goes as these lines say, of which its commands are those that were asked. If a session's key that has
--- the check of a holder's is the holder's, this is what is printed to the lines.
+-- The owner's session over a journal goes as these lines say, of which its commands are those that were asked. The text answers the lines,
+-- whatever keys the sessions have. If a session's key that has the check of a holder's is the holder's, it is the definition's.
 pub record HasServed (limits : Limits) (key : List ℕ) (m : Journal) (turns : List Turn) (asked : List Request) (text : List ℕ)
     (seen : Seen) (may_leave : List ℕ → Type 0) (KeepsTo : Journal → Type 0) : Type 0 where
   pub session : SessionOver limits m asked
@@ -35,5 +36,6 @@ pub record HasServed (limits : Limits) (key : List ℕ) (m : Journal) (turns : L
   pub draws : DrawsNext session.drawn seen
   pub leaves : LeavesAt key m session.now seen may_leave
   pub kept : KeepsTo session.now
+  pub answered : (rest : List ℕ) → AnswersTurns key limits (serving_over m (joined session.drawn ++ rest)) turns text
   pub prints : HaveHonestKeys session.now turns
       → (rest : List ℕ) → served_text limits (serving_over m (joined session.drawn ++ rest)) turns ≡ text

@@ -89,7 +89,8 @@ pub fn run_lines<S: Source, O: Applies<R, D>, R, D, W: Sink>(
     requires { O.ready (owner.old, random.old, disk.old) }
     ensures ready { StaysReady (O.ready (owner.new, random.new, disk.new)) result }
     ensures ran { Ran O.answers O.fails (λ (at : O × R × D). O.replaces at.0) result (owner.old, random.old, disk.old)
-        (owner.new, random.new, disk.new) reader.old reader.new (S.left input.old) (S.left input.new) (W.written out.old) (W.written out.new) }
+        (owner.new, random.new, disk.new) reader.old reader.new (S.left input.old) (S.left input.new) (W.written out.old)
+        (W.written out.new) }
     ensures to_end { OnOk result (WhereTold (S.left input.new) (λ after. after ≡ [])) }
     ensures unended { result ≡ Err ScriptFault.ReadFault → IsUnended reader.new }
     ensures input_told { is_some (S.left input.new) ≡ is_some (S.left input.old) }

@@ -1,5 +1,5 @@
 //! Reads a log batch by batch (docs/FORMAT.md, "Reading").
-ghost use Rattle.std.specs.Prelude.{◌≡◌, ◌≢◌, ◌+◌, ◌-◌, ◌≤◌, ◌++◌, [], ◌∷◌, Err, IfOk, List, Ok, OnOk, Some, length};
+ghost use Rattle.std.specs.Prelude.{◌≡◌, ◌≢◌, ◌+◌, ◌-◌, ◌≤◌, ◌++◌, [], ◌∷◌, Err, IfOk, List, Ok, OnOk, length};
 ghost use Rattle.commit_journal.specs.Placed.{PlainPlaced, plain_placed};
 ghost use Rattle.commit_journal.specs.Places.{IsStanding};
 ghost use Rattle.commit_journal.specs.declared.past.Past.{Past as ThePast};

@@ -8,3 +8,4 @@ pub mod SessionsSeated
 pub mod KeysHonest
 pub mod RepliesPrinted
 pub mod SeatPlaces
+pub mod LinesReplied

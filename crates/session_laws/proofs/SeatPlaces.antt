@@ -1,5 +1,5 @@
 -- The one with a number stands at the place before it in a list.
-use Rattle.std.proofs.Common.{◌≡◌, ℕ, zero, suc, ◌<◌, List, [], ◌∷◌, None, refl, ap}
+use Rattle.std.proofs.Common.{◌≡◌, ℕ, zero, suc, List, [], ◌∷◌, None, refl, ap}
 use Rattle.std.specs.List.{slice_get}
 use Rattle.std.specs.Prelude.{set}
 use Rattle.session_laws.specs.Seats.{changed_at, seat_at}

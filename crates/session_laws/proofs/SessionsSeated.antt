@@ -1,5 +1,5 @@
 -- A session's calls leave what the definition of seats says.
-use Rattle.std.proofs.Common.{◌≡◌, ℕ, ◌+◌, ◌<◌, ◌≤◌, true, false, cond, List, [], ◌∷◌, ◌++◌, length, take, Result, Ok, Err, arith, length-append, sym, ap, subst, ◌∙◌}
+use Rattle.std.proofs.Common.{◌≡◌, ℕ, ◌+◌, ◌<◌, true, false, cond, List, [], ◌∷◌, ◌++◌, length, take, Result, Ok, Err, arith, length-append, sym, ap, subst, ◌∙◌}
 use Rattle.std.specs.Prelude.{max, nat_lt}
 use Rattle.std.proofs.lemmas.Bool.Decides.{nat_tests}
 use Rattle.std.proofs.lemmas.List.{length-take-le}
@@ -21,6 +21,7 @@ use Rattle.log_visits.specs.declared.fault.ClientFault.TheVariants as faults
 use Rattle.public_fold.specs.Journal.{Journal}
 use Rattle.read_steps.specs.Steps.{IsSession, SessionView, next_batch, owner_in}
 use Rattle.session_laws.specs.Answers.{RepliesTo}
+use Rattle.session_laws.specs.Replying.{pinned_view}
 use Rattle.session_laws.specs.Seats.{Seat, PlainReply, new_seat, repinned, show_reply, stepped}
 use Rattle.session_laws.specs.Serving.{IsHonestKey}
 use Rattle.session_laws.specs.Sessions.{IsFromOutside, IsSeatOf, TellsReply}
@@ -137,14 +138,21 @@ module _ (owner : List ℕ) (m : Journal) (bytes : List ℕ) (whole : StandsWhol
   told (Err faults.DiskFault) wanted reply answers replies = tt
   told (Err faults.OutOfMemory) wanted reply answers replies = tt
 
+  -- for every key
+  pub seat_view : (seat : Seat) (session : SessionView) → IsSeatOf owner m seat session → seat.read ≡ seat.pinned → view_with session.bundle (Ok session.log.given) ≡ pinned_view owner m seat
+  unfolding pinned_view
+  seat_view seat session is all =
+      let given : session.log.given ≡ take seat.pinned (log_of owner m) = is.front.given ∙ ap (λ n. take n (log_of owner m)) all in
+      ap (λ b. view_with b (Ok session.log.given)) is.bundle
+      ∙ ap (λ (l : List PlainPlaced). view_with (bundles.Holder (record { 0 = seat.holder }) seat.key) (Ok l)) given
+
   pub replies_so : (seat : Seat) (session : SessionView) → IsSeatOf owner m seat session → seat.read ≡ seat.pinned → IsHonestKey m seat.holder seat.key →
       RepliesTo (view_with session.bundle (Ok session.log.given)) (show_reply m seat)
-  unfolding show_reply
+  unfolding show_reply pinned_view
   replies_so seat session is all honest =
       let held = is.within in
       let not_less : nat_lt seat.read seat.pinned ≡ false = grind (arith, nat_tests) in
-      let given : session.log.given ≡ take seat.pinned (log_of owner m) = is.front.given ∙ ap (λ n. take n (log_of owner m)) all in
-      rw (is.bundle, given, not_less) (front_shows owner m whole.valid whole.whole_keys seat.pinned (record { 0 = seat.holder }) seat.key held.pinned honest)
+      rw (seat_view seat session is all, not_less) (front_shows owner m whole.valid whole.whole_keys seat.pinned (record { 0 = seat.holder }) seat.key held.pinned honest)
 
   pub seat_shown : (seat : Seat) (session : SessionView) (result : Result (Listed code.Line) ClientFault) → IsSeatOf owner m seat session → seat.read ≡ seat.pinned →
       IsHonestKey m seat.holder seat.key → AnswersAs plain_view result (view_with session.bundle (Ok session.log.given)) → TellsReply result (show_reply m seat)

@@ -3,3 +3,4 @@ pub mod Seats
 pub mod Serving
 pub mod Answers
 pub mod Sessions
+pub mod Replying

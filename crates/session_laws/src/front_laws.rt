@@ -1,5 +1,5 @@
 //! Laws of a log that was read up to some batch, in bytes to which more was added since.
-ghost use Rattle.std.specs.Prelude.{◌≡◌, ◌+◌, ◌<◌, ◌≤◌, ◌++◌, ◌∷◌, [], List, Ok, length, take, ℕ};
+ghost use Rattle.std.specs.Prelude.{◌≡◌, ◌+◌, ◌<◌, ◌++◌, ◌∷◌, [], List, Ok, length, take, ℕ};
 ghost use Rattle.commit_journal.specs.Log.{PlainTurn};
 ghost use Rattle.commit_journal.specs.Logs.{holder_log};
 ghost use Rattle.commit_journal.specs.Streaming.{LogState, ShowsGiven};

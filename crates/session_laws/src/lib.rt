@@ -3,5 +3,6 @@
 
 pub mod answer_laws;
 pub mod front_laws;
+pub mod reply_laws;
 pub mod seat_laws;
 pub mod session_laws;

@@ -1,5 +1,5 @@
 //! Laws of sessions that read batch by batch, over bytes that stand for a journal.
-ghost use Rattle.std.specs.Prelude.{◌≡◌, ◌<◌, ◌++◌, ◌∷◌, [], Err, List, Ok, Result, length, max, ℕ};
+ghost use Rattle.std.specs.Prelude.{◌≡◌, ◌<◌, ◌++◌, ◌∷◌, [], List, Ok, Result, length, max, ℕ};
 ghost use Rattle.commit_journal.specs.Streaming.{ShowsGiven};
 ghost use Rattle.cry_base.specs.Listed.{Listed};
 ghost use Rattle.cry_base.specs.declared.client.Bundle.{Bundle};

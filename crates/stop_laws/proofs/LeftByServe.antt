@@ -1,5 +1,5 @@
 -- What a call of `serve` by the owner leaves of a store.
-use Rattle.std.proofs.Common.{◌≡◌, ◌≤◌, ◌+◌, ⊎_elim, inl, inr, ℕ, suc, true, List, [], ◌∷◌, ◌++◌, length, take, Option, Some, append-nil, append_assoc, arith, refl, sym, ap, subst, ◌∙◌}
+use Rattle.std.proofs.Common.{◌≡◌, ◌≤◌, ⊎_elim, inl, inr, ℕ, suc, true, List, [], ◌∷◌, ◌++◌, length, take, Option, Some, append-nil, append_assoc, arith, refl, sym, ap, subst, ◌∙◌}
 use Rattle.std.specs.Prelude.{min}
 use Rattle.std.proofs.lemmas.List.{take_all, take_min}
 use Rattle.std.proofs.lemmas.Grind.{flat_map-append}
@@ -7,10 +7,8 @@ use Rattle.std.proofs.lemmas.List.Elements.{All-append}
 use Rattle.commit_journal.specs.Holding.{IsPrefix}
 use Rattle.commit_journal.proofs.KeptLemmas.{prefix_same, prefix_trans}
 use Rattle.cry_base.specs.Requests.{Request}
-use Rattle.cry_base.specs.Sets.{In}
 use Rattle.cry_base.specs.declared.commands.Reply.{Reply}
 use Rattle.cry_base.specs.declared.limits.Limits.{Limits}
-use Rattle.cry_base.proofs.Members.{In-append}
 use Rattle.cry_io.specs.Told.{WhereBothTold}
 use Rattle.cli_base.specs.Outside.{PrintsFront}
 use Rattle.cli_base.specs.declared.status.Status.{Status}
@@ -28,10 +26,10 @@ use Rattle.journal_bytes.specs.Script.{Going, journal_then, opened, script_going
 use Rattle.public_fold.specs.Journal.{Journal}
 use Rattle.script_text.specs.Printing.{spell_reply}
 use Rattle.script_text.specs.Seats.{Turn}
-use Rattle.script_text.specs.Seats.SeatAsk.{Begins}
+use Rattle.script_text.specs.Seats.SeatAsk.{Shows}
 use Rattle.script_text.specs.Seats.Turn.{ToOwner, ToSeat}
 use Rattle.script_text.specs.Tasks.{Task}
-use Rattle.session_laws.specs.Serving.{HaveHonestKeys, served_then}
+use Rattle.session_laws.specs.Serving.{served_then}
 use Rattle.store_owner.specs.Drawing.{joined}
 use Rattle.store_owner.proofs.Scripted.{Whole}
 use Rattle.stop_laws.specs.Runs.{HoldsTurns}
@@ -95,7 +93,7 @@ turns_more key was turns before after j more longer holds =
       record {
         made = all.2.made;
         text = all.2.text;
-        answers = all.2.answers;
+        answered = all.2.answered;
         replies = all.2.replies;
         replied = all.2.replied;
         prints = all.2.prints;
@@ -130,7 +128,7 @@ module _ (key : List ℕ) (l h m : Journal) (left_before left_after was shown wr
 
   -- where lines were done, and the disk rests where the owner's session stands
   at_rest : (made : GoesThrough m turns) → IsPrefix m made.now → LeavesAt key m made.now seen may_leave → KeepsTo made.now
-      → AnsweredTurns m turns written_before written_after made.now → Left
+      → AnsweredTurns key m turns written_before written_after made.now → Left
   at_rest made longer leaves kept answered =
       rested key l h m left_before left_after was shown written_before written_after could_leave since may_leave held low_m m_high shows counted Makes Holds
       made.now longer leaves kept (inr (m, m_high, shows, record { made = made; front = prefix_same made.now })) (inr (m, shows, answered))
@@ -156,8 +154,7 @@ module _ (key : List ℕ) (l h m : Journal) (left_before left_after was shown wr
       (record {
         made = made;
         text = text;
-        answers = λ honest.
-            served.prints (λ h k i. honest h k (subst (λ (ts : List Turn). In (ToSeat (Begins h k)) ts) (sym are) ((In-append Turn (ToSeat (Begins h k)) done rest).1 (inl i))));
+        answered = served.answered;
         replies = [];
         replied = λ draws. none_replied version_limits (owner_behind m session.drawn draws done);
         prints = λ b a is_b is_a. subst (λ t. PrintsFront t b a) (sym (append-nil text)) (printed b a is_b is_a);
@@ -176,7 +173,7 @@ module _ (key : List ℕ) (l h m : Journal) (left_before left_after was shown wr
       (λ b a is_b is_a. let front = all.prints b a is_b is_a in printed_front all.first all.last b a front.0 front.1)
 
   -- the last is the owner's, and some of its commands were answered
-  module _ (asked : List Request) (Prints : List ℕ → List Reply → Type 0) (to : ServesTo version_limits m turns asked seen Prints) where
+  module _ (asked : List Request) (Prints : List ℕ → List Reply → Type 0) (to : ServesTo version_limits key m turns asked seen Prints) where
     abbrev now : Journal
     now = to.session.now
 
@@ -207,11 +204,11 @@ module _ (key : List ℕ) (l h m : Journal) (left_before left_after was shown wr
       goes = some_goes;
     }
 
-    some_answered : Printed (to.text ++ spell_replies to.replies) → AnsweredTurns m turns written_before written_after now
+    some_answered : Printed (to.text ++ spell_replies to.replies) → AnsweredTurns key m turns written_before written_after now
     some_answered printed = record {
       made = some_made;
       text = to.text;
-      answers = to.answers;
+      answered = to.answered;
       replies = to.replies;
       replied = λ draws. ap (λ (g : Going). script_replies version_limits g to.some) (to.goes_first draws) ∙ to.replied draws;
       prints = printed;
@@ -227,7 +224,7 @@ module _ (key : List ℕ) (l h m : Journal) (left_before left_after was shown wr
       (λ b a is_b is_a. printed_cut all.to.text all.to.replies b a (all.to.prints b a is_b is_a)) all.leaves all.kept
 
   -- and the next one was accepted
-  module _ (asked : List Request) (ran : ServesNext version_limits m turns asked seen) where
+  module _ (asked : List Request) (ran : ServesNext version_limits key m turns asked seen) where
     abbrev Told : List ℕ → List Reply → Type 0
     Told text replies = WhereBothTold written_before written_after (λ b a. a ≡ b ++ (text ++ spell_replies replies))
 
@@ -297,8 +294,8 @@ module _ (key : List ℕ) (l h m : Journal) (left_before left_after was shown wr
       (λ is. closed is.2)
       (λ opened. ⊎_elim (λ all. whole all.0 all.1 asked all.2 all.3) (λ more. ⊎_elim (λ all. cut asked all) (λ all. last asked all) more) opened)
       run
-  served_left (statuses.Damaged at) asked run = whole run.0 (run.1 ∷ []) asked run.2 run.3.all
-  served_left (statuses.Tampered batch at) asked run = whole run.0 (run.1 ∷ []) asked run.2 run.3.all
+  served_left (statuses.Damaged at) asked run = whole run.0 (ToSeat (Shows run.1) ∷ []) asked run.2 run.3.all
+  served_left (statuses.Tampered batch at) asked run = whole run.0 (ToSeat (Shows run.1) ∷ []) asked run.2 run.3.all
   served_left statuses.Usage asked run = absurd run
   served_left statuses.NotAStore asked run = absurd run
   served_left statuses.WrongKey asked run = absurd run

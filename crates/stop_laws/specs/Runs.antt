@@ -136,7 +136,7 @@ HoldsRun key was typed written_before written_after j =
 abbrev pub HoldsTurns : List ℕ → Option (List ℕ) → List Turn → Option (List ℕ) → Option (List ℕ) → Journal → Type 0
 HoldsTurns key was turns written_before written_after j =
     (written_after ≡ written_before) ⊎ ((m : Journal) × ShowsJournal key m was
-    × AnsweredTurns m turns written_before written_after j)
+    × AnsweredTurns key m turns written_before written_after j)
 
 -- The reply to an upgrade of m: all that was printed is this, or a front of it; and the journal begins with what the upgrade made of m. It
 -- was accepted and drew these keys, or the store was too full for it.

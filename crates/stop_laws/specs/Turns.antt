@@ -17,7 +17,8 @@ use Rattle.journal_bytes.specs.Script.{Going, script_going, script_replies}
 use Rattle.public_fold.specs.Journal.{Journal}
 use Rattle.script_text.specs.Seats.{Turn}
 use Rattle.script_text.specs.Seats.Turn.{ToOwner, ToSeat}
-use Rattle.session_laws.specs.Serving.{HaveHonestKeys, served_text, served_then}
+use Rattle.session_laws.specs.Replying.{AnswersTurns}
+use Rattle.session_laws.specs.Serving.{served_then}
 use Rattle.store_owner.specs.Drawing.{AreKeys, joined}
 
 -- These are the first commands that the next line stands for, where the owner's session stands. None are asked by a session's line.
@@ -52,12 +53,12 @@ pub record IsServedOf (m : Journal) (turns : List Turn) (j : Journal) : Type 0 w
   pub front : IsPrefix j made.now
 
 -- All that was printed to these lines over m is what the first of them are answered, or a front of it; and the journal begins with all
--- that these made of m. That is their answer unless a session's key has the check of a holder's and isn't the holder's.
-pub record AnsweredTurns (m : Journal) (turns : List Turn) (written_before written_after : Option (List ℕ)) (j : Journal) : Type 0 where
+-- that these made of m. So it is whatever keys the sessions have: only what a session shows hangs on its key.
+pub record AnsweredTurns (key : List ℕ) (m : Journal) (turns : List Turn) (written_before written_after : Option (List ℕ)) (j : Journal)
+    : Type 0 where
   pub made : GoesThrough m turns
   pub text : List ℕ
-  pub answers : HaveHonestKeys made.now turns
-      → (draws : List ℕ) → served_text version_limits (serving_over m (joined made.drawn ++ draws)) made.done ≡ text
+  pub answered : (draws : List ℕ) → AnswersTurns key version_limits (serving_over m (joined made.drawn ++ draws)) made.done text
   pub replies : List Reply
   pub replied : (draws : List ℕ) → script_replies version_limits (owner_behind m made.drawn draws made.done) made.some ≡ replies
   pub prints : WhereBothTold written_before written_after (PrintsFront (text ++ spell_replies replies))

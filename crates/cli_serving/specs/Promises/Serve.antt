@@ -21,6 +21,7 @@ use Rattle.cry_io.specs.Told.{WhereTold, WhereBothTold}
 use Rattle.log_visits.specs.declared.fault.ClientFault.{ClientFault}
 use Rattle.script_text.specs.Seats.{Turn}
 use Rattle.store_owner.specs.Owned.{OwnerView}
+use Rattle.cli_base.specs.Reading.{reading_status}
 use Rattle.cli_base.specs.World.{Senses, World}
 use Rattle.cli_base.specs.declared.status.Status.{Status}
 use Rattle.cli_base.specs.declared.status.Status.TheVariants as statuses
@@ -30,7 +31,7 @@ use Rattle.cli_running.specs.Running.{is_run_answer, key_in_lines, lines_in, lin
 use Rattle.cli_sessions.specs.Acting.{AnswersAt, FailsAt, Place, StandsAt, place_of}
 use Rattle.cli_sessions.specs.Opening.{IsOfVersion, LeavesUnopened, WasOpened}
 use Rattle.cli_sessions.specs.Sessions.{RanDry, seen_between}
-use Rattle.cli_serving.specs.Lines.{AskNoOwner, BeginsLines, HasBadTurn, ReadsAllTyped, reading_status, serve_status, turn_ended}
+use Rattle.cli_serving.specs.Lines.{AskNoOwner, BeginsLines, HasBadTurn, ReadsAllTyped, serve_status, turn_ended}
 use Rattle.cli_serving.specs.Serves.{ServesTyped}
 use Rattle.cli_serving.specs.Went.{ServeWent}
 use Rattle.cli_serving.specs.declared.serve_fault.ServeFault.{ServeFault}

@@ -1,12 +1,13 @@
-//! How the commands that read a store end where nothing is shown.
+//! How the program ends where its reading of a store fails.
 ghost use Rattle.std.specs.Prelude.{◌≡◌};
-ghost use Rattle.cli_reading.specs.Statuses as statuses;
+ghost use Rattle.cli_base.specs.Reading as reading;
 
-use cli_base::status::Status;
+use crate::status::Status;
 use log_visits::ClientFault;
 
-pub(crate) fn client_status(fault: ClientFault) -> Status
-    ensures { result ≡ statuses.client_status fault }
+/// How it ends where reading met this fault: one answer for each, whose numbers are the fault's own.
+pub fn reading_status(fault: ClientFault) -> Status
+    ensures { result ≡ reading.reading_status fault }
 {
     match fault {
         ClientFault::NotAStore => Status::NotAStore,
