@@ -49,7 +49,7 @@ pub(crate) fn disk(alloc: Global, fault: Fault, image: &[u8]) -> Mem<MemDisk> {
     MemDisk::make(alloc, copied(alloc, image)?, room, 16_384, fails, dead_from)
 }
 
-/// A sink with room for so many bytes, or for 200.
+/// A sink with room for so many bytes, or for 400.
 pub(crate) fn sink(alloc: Global, fault: Fault) -> Mem<MemSink> {
     let fails = match fault {
         Fault::Output(number) => only(alloc, number)?,
@@ -57,7 +57,7 @@ pub(crate) fn sink(alloc: Global, fault: Fault) -> Mem<MemSink> {
     };
     let room = match fault {
         Fault::Room(room) => room,
-        _ => 200,
+        _ => 400,
     };
     MemSink::make(alloc, room, fails)
 }
