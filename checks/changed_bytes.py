@@ -4,7 +4,8 @@ import random
 from collections import defaultdict, namedtuple
 
 import store_reader
-from key_step import BYTES_OF_FILE, FILE_LIMIT, KEY_OF_HOLDER, NAME_OF_FOLDER, sealing_role
+from key_step import BYTES_OF_FILE, KEY_OF_HOLDER, NAME_OF_FOLDER, sealing_role
+from store_limits import FILE_LIMIT
 from store_reader import FIELDS, Bundle, be32, log, mac, owner_tag, veil, xored
 
 HEADS_TURNED = 40  # fields of notes and heads of a store of which some copies are made, drawn from a fixed seed

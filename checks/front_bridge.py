@@ -8,6 +8,7 @@ from fed_lines import is_whole
 from front_calls import expect_told, front, started
 from front_keys import done, fresh, key_file
 from harness import read
+from store_limits import FILE_LIMIT
 
 LIMIT = 120  # seconds in which an answer is there, on a busy machine too
 LINES = (b"mkdir /trip", b"write /trip/notes 6869", b"grant 1 /trip")
@@ -58,7 +59,7 @@ class Bridged:
 
 
 def all_bridges(check):
-    for part in (turns, strangers, many, unserved):
+    for part in (turns, strangers, many, unserved, replaced):
         part(check)
 
 
@@ -110,8 +111,8 @@ def strangers(check):
     writer.say(owner)
     half.socket.sendall(b"owner " + owner[6:40])
     check.expect("beside half a line", writer.say(LINES[0]), b"ok\n")
-    check.expect("a large file", writer.say(b"write /trip/large " + b"5a" * 1_048_576), b"ok\n")
-    check.expect("one that is too large", writer.say(b"write /trip/large " + b"5a" * 1_048_577), b"refused too-long\n")
+    check.expect("a large file", writer.say(b"write /trip/large " + b"5a" * FILE_LIMIT), b"ok\n")
+    check.expect("one that is too large", writer.say(b"write /trip/large " + b"5a" * (FILE_LIMIT + 1)), b"refused too-long\n")
     check.expect("a grant", writer.say(b"grant 1 /trip"), b"ok\n")
     deaf.socket.sendall(b"\n".join([key, *[b"step 1"] * 8, *[b"show 1"] * 20, b""]))
     check.expect("beside one that takes nothing", [writer.say(b"mkdir /d%d" % n) for n in range(20)], [b"ok\n"] * 20)
@@ -163,3 +164,17 @@ def unserved(check):
     check.expect("a store that is cut below it", guest.say(b"pin 1"), b"")
     _, said = bridged.process.communicate()
     check.expect("how it ends", (bridged.process.returncode, b"damaged" in said), (1, True))
+
+
+def replaced(check):
+    """Another file that comes to be the store: a command isn't in it, and so isn't answered."""
+    store, owner, key = with_holder(check, "displaced.store")
+    copy = check.put("displaced.copy", read(store))
+    bridged = Bridged(check, store)
+    guest = bridged.guest()
+    check.expect("before", [guest.say(line) for line in (owner, key)], [b"ok\n", b"session 1 of 4\n"])
+    os.replace(copy, store)
+    check.expect("a line that reads", guest.say(b"step 1"), b"read 1 of 4\n")
+    check.expect("one that writes", guest.say(LINES[0]), b"")
+    _, said = bridged.process.communicate()
+    check.expect("how it ends", (bridged.process.returncode, b"isn't there" in said), (1, True))

@@ -28,6 +28,7 @@ def all_copies(check):
     holders_taken_in(check)
     followed_grants(check)
     full(check)
+    full_of_what_stands(check)
     json_of_each(check)
     progress_line(check)
 
@@ -245,6 +246,20 @@ def full(check):
     expect_told(check, "a grant", calls("grant", "ann", "/"), 1, "nothing was done", "renew")
     came = calls("revoke", "ann", "/a")
     check.expect("a revocation still works", (came[0], b"in 100 full" in came[2], b"renew" in came[2]), (0, True, True))
+
+
+def full_of_what_stands(check):
+    """A store that is nearly full, of which nothing was overwritten: that's told once by each call, and of a renewed one that no renew helps."""
+    store, folder, new = shared_store(check, "standing.store"), os.path.join(check.folder, "standing"), os.path.join(check.folder, "standing.new")
+    os.mkdir(folder)
+    with open(os.path.join(folder, "x"), "wb") as file:
+        file.write(bytes(50_000))
+    small = small_front(check, os.stat(store).st_size + 60_000)
+    came = front(check, store, "put", folder, "/x", with_front=small)
+    check.expect("a nearly full store", (came[0], came[2].count(b"in 100 full")), (0, 1))
+    status, _, said = front(check, store, "renew", new, with_front=small)
+    check.expect("a renewed one", (status, [line for line in said.splitlines() if b"in 100 full" in line and new.encode() + b" is " in line
+                                            and b"a store of its own" in line and b"renew" not in line] == said.splitlines()), (0, True))
 
 
 def json_of_each(check):

@@ -13,6 +13,7 @@ import front_hostile
 import front_plans
 import harness
 from front_calls import FRONT, front, program_that, started
+from store_limits import FILE_LIMIT
 
 sys.path.insert(0, os.path.dirname(FRONT))
 sys.dont_write_bytecode = True
@@ -20,7 +21,7 @@ sys.dont_write_bytecode = True
 from folder_store import names     # noqa: E402 (the package stands beside the front end)
 
 RANDOM = random.Random("front folders")
-LARGE = RANDOM.randbytes(3 << 20)
+LARGE = RANDOM.randbytes(3 * FILE_LIMIT)
 LONG = "n" * 200
 TREE = {
     "notes": b"hi\n", "empty": b"", "nothing": None, "Meine Übung": None, "Meine Übung/a+b, c.txt": b"plus", "Meine Übung/leer": None,
@@ -165,7 +166,7 @@ def there_and_back(check):
     check.expect("a large file that was renamed isn't written again", at.size() - size < 100_000, True)
     check.expect("the changes were some", len(before.items() - state(at.folder).items()) > 5, True)
     size = at.size()
-    make(at.folder, {"large, too": LARGE[:1 << 20] + b"x" + LARGE[(1 << 20) + 1:-1]})
+    make(at.folder, {"large, too": LARGE[:FILE_LIMIT] + b"x" + LARGE[FILE_LIMIT + 1:-1]})
     at.put("one byte of a large file")
     check.expect("of a large file only changed parts are written", at.size() - size < 2_300_000, True)
     at.comes_back("one byte of a large file")
@@ -178,7 +179,7 @@ def kinds_that_change(at):
     os.remove(at.path("link"))
     os.remove(at.path("large, too"))
     shutil.rmtree(at.path("Meine Übung"))
-    make(at.folder, {"empty/inside": b"1", "link": b"2", "large, too": b"small", "Meine Übung": b"3", ".hidden": LARGE[:2 << 20]},
+    make(at.folder, {"empty/inside": b"1", "link": b"2", "large, too": b"small", "Meine Übung": b"3", ".hidden": LARGE[:2 * FILE_LIMIT]},
          {"link2": "link"})
     at.put("other kinds")
     at.comes_back("other kinds")
@@ -208,7 +209,7 @@ def what_can_not_be_kept(check):
     os.mkfifo(at.path("pipe"))
     os.link(at.path("linked"), at.path("linked again"))
     make(at.path("deep" + "/d" * 200), {"er": b""})
-    make(at.path("d" + "/e" * 60), {"f": b"1", "f2": LARGE[:(1 << 20) + 1], "in": None})
+    make(at.path("d" + "/e" * 60), {"f": b"1", "f2": LARGE[:FILE_LIMIT + 1], "in": None})
     os.symlink("f", at.path("d" + "/e" * 60 + "/f3"))
     os.remove(at.path("gone"))
     os.mkfifo(at.path("gone"))
@@ -230,7 +231,7 @@ def what_can_not_be_kept(check):
     at.ends("no folder", 1, "put", at.path("good"), "/trip", says=b"is no folder")
     at.ends("no path", 2, "put", at.folder, "trip", says=b"is no path of a store")
     at.ends("into a file", 1, "put", at.folder, "/trip/good", "--dry-run", "--skip", says=b"is a file in the store")
-    make(check.folder + "/folders.plain", {"x": b"x", "large": LARGE[:(1 << 20) + 1]})
+    make(check.folder + "/folders.plain", {"x": b"x", "large": LARGE[:FILE_LIMIT + 1]})
     at.ends("a large one beside", 0, "put", check.folder + "/folders.plain", "/plain")
     at.ends("into a large file", 1, "put", check.folder + "/folders.plain", "/plain/large/in", says=b"/plain/large is a file in the store")
     at.ends("get a file", 1, "get", "/trip/good", at.out, says=b"get takes a folder")
@@ -298,10 +299,10 @@ def looking(at):
 def stopped_puts(check):
     """A program that ends after some lines: what stands then is whole files, old or new, or none is made of it; the next put finishes."""
     at = Folders(check, "stopped")
-    make(at.folder, {"large": LARGE[:(1 << 20) + 1], "b": b"old", "gone": LARGE[:(1 << 20) + 2]})
+    make(at.folder, {"large": LARGE[:FILE_LIMIT + 1], "b": b"old", "gone": LARGE[:FILE_LIMIT + 2]})
     at.put("old")
     old = bytes_of(at.folder)
-    make(at.folder, {"large": LARGE[1:(1 << 20) + 3], "b": b"new", "more/large": LARGE[2:(1 << 20) + 5]})
+    make(at.folder, {"large": LARGE[1:FILE_LIMIT + 3], "b": b"new", "more/large": LARGE[2:FILE_LIMIT + 5]})
     os.remove(at.path("gone"))
     new = bytes_of(at.folder)
     for lines in (1, 2, 4, 5, 7, 10, 13, 99):

@@ -4,16 +4,18 @@ import glob
 import hashlib
 import json
 import os
+import sys
 
 import store_reader
-from front_calls import expect_told, front, program_that, shell
+from front_calls import FRONT, expect_told, front, program_that, shell
 from front_copies import shared_store
 from front_keys import done, key_file, modes
 from harness import read
 
 
 def all_heads(check):
-    for part in (read_by_a_holder, compared, hidden_from_holders, half_published, handed, put_back_meanwhile, older_form):
+    for part in (read_by_a_holder, compared, hidden_from_holders, half_published, handed, put_back_meanwhile, replaced_meanwhile,
+                 older_form):
         part(check)
 
 
@@ -215,6 +217,49 @@ def put_back_meanwhile(check):
     check.put("swapped.store", newest)
     check.put(os.path.relpath(last, check.folder), kept)
     answered_and_hidden(check, store)
+
+
+def replaced_meanwhile(check):
+    """Another file that comes to have the store's name, as a synced folder puts one there: the lock isn't its, so it isn't written, neither by
+    the next session of a call nor by the next line to a bridge, and nothing is told as done that isn't in it."""
+    store = shared_store(check, "replaced.store")
+    older = read(store)
+    does(check, store, b"mkdir /b\n")
+    done(check, "ls", front(check, store, "ls"))
+    last, place = key_file(check, store, "last"), check.put("replaced.new", b"")
+    newest, kept = read(store), read(last)
+    replaces = program_that(check, "replaces", f'''[ "$3" = run ] || exec "{check.program}" "$@"
+"{check.program}" "$@"; status=$?; [ ! -s "{place}" ] || mv "{place}" "{store}"; exit $status''')
+    small = check.put("small sessions", f"""#!{sys.executable}
+import sys
+sys.path.insert(0, {os.path.dirname(FRONT)!r})
+from folder_store import limits
+from folder_store.entry import main
+limits.INPUT = 40_000
+sys.exit(main())
+""".encode())
+    os.chmod(small, 0o700)
+    for words, how in ((("grant", "ann", "/"), {}), (("put", large_folder(check), "/a", "--keep"), {"with_front": small})):
+        check.put("replaced.new", older)
+        came = front(check, store, *words, program=replaces, **how)
+        expect_told(check, f"{words[0]} of a store that is replaced", came, 1, "isn't there", "put that back")
+        check.expect(f"{words[0]} leaves what came there", read(store) == older, True)
+        check.put("replaced.store", newest)
+        check.put(os.path.relpath(last, check.folder), kept)
+
+
+    same = program_that(check, "same", f'''"{check.program}" "$@" || exit; [ "$3" != run ] || {{ cp "{store}" "{place}"; mv "{place}" "{store}"; }}''')
+    done(check, "a copy that is the same", front(check, store, "grant", "ann", "/", program=same))
+    check.expect("the grant is in it", b"ann" in done(check, "who", front(check, store, "who", "/")), True)
+
+
+def large_folder(check):
+    """A folder of more than goes into one small session."""
+    folder = os.path.join(check.folder, "replaced.in")
+    os.makedirs(folder, exist_ok=True)
+    for name in "abc":
+        check.put(f"replaced.in/{name}", os.urandom(15_000))
+    return folder
 
 
 def answered_and_hidden(check, store):

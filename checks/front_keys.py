@@ -421,7 +421,7 @@ def renewed(check):
     done(check, "it can be written", front(check, new, "grant", "cy", "/a"))
     expect_told(check, "renew to what stands", front(check, store, "renew", new), 1, "stands there already")
     check.expect("nothing half is left", os.path.exists(new + ".half"), False)
-    less = f'case "$1 $3" in *.half\\ list*) "{check.program}" "$@" | sed "\\$d" ;; *) exec "{check.program}" "$@" ;; esac'
+    less = f'case "$(readlink "$1") $3" in *.half\\ list*) "{check.program}" "$@" | sed "\\$d" ;; *) exec "{check.program}" "$@" ;; esac'
     came = front(check, store, "renew", new + "2", program=program_that(check, "less", less))
     check.expect("a new store that shows less", (came[0], b"doesn't hold what" in came[2], os.path.exists(new + "2"), read(store) == older),
                  (1, True, False, True))

@@ -18,17 +18,18 @@ import harness
 import store_reader
 from front_calls import front, keys_of, started
 from front_folders import bytes_of, make, state
+from store_limits import FILE_LIMIT
 
 MOMENTS, SECONDS = 100, {"put at writes": 35, "put at moments": 35, "get": 15, "renew at writes": 15, "renew at moments": 20}
 LEAST = 4       # stops of each kind, however long they take
 TARGETS = ("front end", "program", "both")
 RANDOM = random.Random("front kills")
 FILES = {f"d{number % 3}/f{number:02}": RANDOM.randbytes(RANDOM.randrange(9000)) for number in range(30)}
-LARGE = RANDOM.randbytes((2 << 20) + 5000)
-OLD = FILES | {"large": LARGE, "shrinks": LARGE[:(1 << 20) + 1], "old/one": b"1", "empty": None}
+LARGE = RANDOM.randbytes(2 * FILE_LIMIT + 5000)
+OLD = FILES | {"large": LARGE, "shrinks": LARGE[:FILE_LIMIT + 1], "old/one": b"1", "empty": None}
 NEW = dict(list(FILES.items())[6:]) | {f"new d/{name.replace('/', ' ')}": data + b"new" for name, data in list(FILES.items())[3:9]} | {
-    "d0/f06": b"changed", "d1/f07": b"", "large": LARGE[:1 << 20] + b"x" + LARGE[(1 << 20) + 1:] + b"and more", "shrinks": b"small",
-    "new d/large": LARGE[1:(1 << 20) + 5], "old": b"a file now", "empty": None, "d0/renamed": FILES["d0/f00"]}
+    "d0/f06": b"changed", "d1/f07": b"", "large": LARGE[:FILE_LIMIT] + b"x" + LARGE[FILE_LIMIT + 1:] + b"and more", "shrinks": b"small",
+    "new d/large": LARGE[1:FILE_LIMIT + 5], "old": b"a file now", "empty": None, "d0/renamed": FILES["d0/f00"]}
 CHECKS = os.path.dirname(os.path.abspath(__file__))
 STOPPING = """#!{python}
 import os, sys

@@ -3,7 +3,8 @@ never opens, since a later content stands in their place."""
 import os
 
 from key_step import REWRITE
-from store_reader import FILE_LIMIT, be32, mac, owner_tag, stream
+from store_limits import FILE_LIMIT
+from store_reader import be32, mac, owner_tag, stream
 from store_writer import COMMAND, Writer, be64
 from worked_sessions import SEED
 

@@ -7,13 +7,15 @@ grant.
 """
 from collections import defaultdict, namedtuple
 
-DEPTH, FILE_LIMIT, CLEARANCES = 64, 1_048_576, 1 << 31
+from store_limits import DEPTH, FILE_LIMIT, NAME_LIMIT
+
+CLEARANCES = 1 << 31
 
 OWNER, HOLDER, CLEAR, SUB, BACK, FILES, DATA, FILE = range(8)  # in their order
 FOLDER_ROLES = (CLEAR, SUB, BACK, FILES, DATA)
 LINKS = {1: (OWNER, CLEAR), 2: (HOLDER, CLEAR), 3: (CLEAR, SUB), 4: (SUB, BACK), 5: (SUB, FILES), 6: (SUB, SUB), 7: (BACK, DATA),
          8: (BACK, BACK), 9: (FILES, FILE), 10: (CLEAR, FILE), 11: (CLEAR, BACK)}
-CONTENTS = {1: (DATA, 0, 64), 2: (FILE, 2, FILE_LIMIT + 65), 3: (OWNER, 32, 32)}  # what seals it, the lengths that its text may have
+CONTENTS = {1: (DATA, 0, NAME_LIMIT), 2: (FILE, 2, 1 + NAME_LIMIT + FILE_LIMIT), 3: (OWNER, 32, 32)}  # what seals it, the lengths that its text may have
 NAME_OF_FOLDER, BYTES_OF_FILE, KEY_OF_HOLDER = CONTENTS
 NOTES = range(1, 16)
 (ROOT, NEW_HOLDER, NEW_FOLDER, NEW_FILE, REWRITE, NAME_FILE, NAME_FOLDER, DROP_FILE, DROP_FOLDER, SHIFT_FILE, SHIFT_FOLDER, GIVE,

@@ -2,7 +2,8 @@
 program's answers against."""
 import copy
 
-SESSIONS = 256  # how many sessions may be begun
+from store_limits import SESSIONS
+
 UNSEEN = 16, b"", b"cryptree: unseen\n"
 
 

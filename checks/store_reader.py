@@ -27,13 +27,13 @@ import re
 import sys
 from collections import defaultdict, namedtuple
 
-from key_step import (BYTES_OF_FILE, CLEARANCES, CONTENTS, FILE_LIMIT, GIVE, HOLDER, KEY_OF_HOLDER, LINKS, NAME_OF_FOLDER, NEW_FILE,
+from key_step import (BYTES_OF_FILE, CLEARANCES, CONTENTS, GIVE, HOLDER, KEY_OF_HOLDER, LINKS, NAME_OF_FOLDER, NEW_FILE,
                       NEW_FOLDER, NEW_HOLDER, NOTES, OWNER, ROOT, SHIFT_FILE, SHIFT_FOLDER, STRICT_ROOT, TAKE, UPGRADE, Head, State,
                       sealing_role, source, target)
+from store_limits import FILE_LIMIT, NAME_LIMIT, SESSIONS, STORE_LIMIT
 
-STORE_LIMIT, HEADER, FRAME = 1_073_741_824, 42, 110
-SESSIONS = 256  # how many sessions one `serve` begins at most
-NAME = re.compile(rb"(?!\.\.?\Z)[A-Za-z0-9._-]{1,64}")
+HEADER, FRAME = 42, 110
+NAME = re.compile(rb"(?!\.\.?\Z)[A-Za-z0-9._-]{1,%d}" % NAME_LIMIT)
 FIELDS = dict.fromkeys((ROOT, STRICT_ROOT, UPGRADE), ()) | {NEW_HOLDER: (4, 32)}  # of the others two or one of 4 bytes
 FIELDS |= dict.fromkeys((NEW_FOLDER, NEW_FILE, SHIFT_FILE, SHIFT_FOLDER, GIVE, TAKE), (4, 4))
 
@@ -240,16 +240,25 @@ def before_the_log(image):
 
 def next_batch(image, last, owner, writing=False):
     """The batch behind this one, with its payload, and nothing where the log ends."""
-    if image[last.end - 1:last.end] != b"\1":
+    batch = batch_behind(image, last, owner)
+    if batch is None:
         return None
-    batch = batch_at(image, last.end, last.number, last.epoch)
-    if owner is not None and batch.tag != owner_tag(owner, last.tag, image[batch.at:batch.at + 13], batch.masked, batch.check):
-        raise tampered(batch.number, batch.end - 33)
     if not writing and mac(batch.slot, batch.masked) != batch.check:
         if batch.gate == 1:
             raise tampered(batch.number, batch.at + 13)
         return None
     return batch, unmasked(batch, veil(owner, batch) if writing else batch.slot)
+
+
+def batch_behind(image, last, owner):
+    """The batch behind this one, and nothing where the gate is closed. With the owner's key its owner tag is tested, and its payload isn't
+    looked at."""
+    if image[last.end - 1:last.end] != b"\1":
+        return None
+    batch = batch_at(image, last.end, last.number, last.epoch)
+    if owner is not None and batch.tag != owner_tag(owner, last.tag, image[batch.at:batch.at + 13], batch.masked, batch.check):
+        raise tampered(batch.number, batch.end - 33)
+    return batch
 
 
 def unmasked(batch, key):

@@ -6,9 +6,9 @@ import subprocess
 from collections import namedtuple
 
 import harness
+from store_limits import AHEAD
 from system_trace import STRACE, Deeds, Opened
 
-AHEAD = 65_536  # how many bytes behind the line at which a call ends may be taken
 SYNCED = ("synced",)
 STORE, RANDOM = "STORE", "RANDOM"  # stand for files of the run's own
 ACCESS = {"make": ("O_RDWR", "O_CREAT"), "gen": ("O_RDWR", "O_CREAT"), "run": ("O_RDWR",), "serve": ("O_RDWR",), "upgrade": ("O_RDWR",)}
