@@ -1,8 +1,8 @@
 """One store for many who come and go: the command bridge. It holds the lock and one `serve`, whose lines clients of a socket type in turns.
 
 Each client has sessions of its own, numbered from 1, and none sees another's. Commands are taken of who typed the owner's line before. A line
-without a form, which would end the program, is refused here. The program takes 256 sessions and 67,108,864 bytes, so it is ended, and begun
-anew by the next line, when no client is there, and where it's half spent when none that is there has a session.
+without a form, which would end the program, is refused here. The program takes so many sessions and bytes (limits.py), so it is ended, and
+begun anew by the next line, when no client is there, and where it's half spent when none that is there has a session.
 """
 import hmac
 import os
@@ -12,14 +12,14 @@ import signal
 import socket
 import stat
 
-from folder_store import program
+from folder_store import limits, program
 from folder_store.entry import opened
 from folder_store.faults import Fault, warn
 from folder_store.names import real_path
 
 CLIENTS = 128               # at once; those behind wait
 PIECE = 1 << 16
-LONGEST = 3 << 20           # bytes of a line: one that writes a whole file has fewer
+LONGEST = 3 * limits.FILE   # bytes of a line: one that writes a whole file has fewer
 WAITING = 1 << 20           # bytes that a client hasn't taken, while which it is read no further
 
 NUMBER, HEX64, FIELD = r"[1-9][0-9]{0,9}", r"[0-9A-Fa-f]{64}", r"[!-~\x00-\x09\x0b-\x1f\x7f]+"
@@ -220,6 +220,7 @@ class Bridge:
             return self.serve.turn(f"{asked[1]} {client.seats[int(asked[2]) - 1]}")
         told = self.serve.turn(asked[0])
         if asked.re is COMMAND:
+            self.store.see_that_it_has_its_name()
             self.follow(asked[0], told)
         elif begun := re.fullmatch(r"session ([0-9]+) (of [0-9]+\n)", told):
             client.seats.append(int(begun[1]))

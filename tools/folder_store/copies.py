@@ -4,7 +4,7 @@ import os
 import shutil
 import tempfile
 
-from folder_store import places, private
+from folder_store import places, private, room
 from folder_store import store as stores
 from folder_store.entry import opened
 from folder_store.faults import Fault, warn
@@ -37,7 +37,9 @@ def copy(store, path):
     place = os.path.abspath(path)
     with tempfile.TemporaryDirectory(prefix=".cryptree-", dir=os.path.dirname(place)) as folder:
         whole = os.path.join(folder, "store")
-        with open(store.path, "rb") as source, open(whole, "xb") as target, Progress(f"copying {shown(store.path)}"):
+        with (open(store.handle, "rb", closefd=False) as source, open(whole, "xb") as target,
+              Progress(f"copying {shown(store.path)}")):
+            source.seek(0)
             shutil.copyfileobj(source, target, 1 << 20)
             target.flush()
             os.fsync(target.fileno())
@@ -81,7 +83,10 @@ def renew(words):
             lost = share(old, new, {line.path for line in listing})
             if new.listing(new.owner) != listing or not all(shows_what_is_granted(new, name) for name in new.holders.names):
                 raise Fault(f"{half} doesn't hold what {words.store} does: take it away, and tell its makers; the old store is as it was")
+            new.see_that_it_has_its_name()
+            end = new.taken_end()
     settle(half, words.new, keys)
+    room.tell_of_renewed(words.new, end)
     tell(words, f"made {words.new} of {words.store}, with new keys in {keys.path}: hand them over, and then take the old store away",
          store=os.path.abspath(words.new), keys=keys.path)
     return 1 if lost else 0

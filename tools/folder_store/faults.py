@@ -1,6 +1,8 @@
 """What a user is told where something wasn't done: one family of exceptions, with messages that say what it is and then what to do."""
 import sys
 
+from folder_store import limits
+
 REFUSALS = {  # docs/PROGRAM.md has the words
     "bad-name": "that is no path or name of a store",
     "no-path": "nothing has that path",
@@ -10,11 +12,11 @@ REFUSALS = {  # docs/PROGRAM.md has the words
     "exists": "something of that name stands there",
     "not-empty": "the folder has something in it",
     "inside-itself": "a folder can't go into itself",
-    "too-deep": "a path has at most 64 names",
+    "too-deep": f"a path has at most {limits.DEPTH} names",
     "no-holder": "the store has no holder of that number",
     "has-grant": "the holder has that grant",
     "no-grant": "the holder doesn't have that grant",
-    "too-long": "a file in a store has at most 1,048,576 bytes",
+    "too-long": f"a file in a store has at most {limits.FILE:,} bytes",
     "full": "the store is full: make a new one of what stands with renew",
 }
 

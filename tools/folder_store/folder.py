@@ -4,11 +4,10 @@ import re
 import stat
 
 from folder_store.faults import Fault
+from folder_store.limits import DEPTH, STORE
 from folder_store.names import PART_SIZE, PARTS, pieces, shown
 from folder_store.progress import Progress
-from folder_store.room import LIMIT
 from folder_store.tree import FILE, FOLDER, LINK, Node
-from folder_store.units import DEPTH
 
 KEY_LINE = re.compile(rb"\s*(?:owner|holder [0-9]+) [0-9A-Fa-f]{64}\s*")
 KINDS = ((stat.S_ISFIFO, "a fifo"), (stat.S_ISSOCK, "a socket"), (stat.S_ISCHR, "a device"), (stat.S_ISBLK, "a device"))
@@ -73,8 +72,8 @@ class Reader:
         with open(handle, "rb") as file:
             status = os.fstat(handle)
             self.size += status.st_size
-            if self.size > LIMIT:
-                raise Fault(f"{shown(self.place)} has more than the {LIMIT:,} bytes of a store: put less, or in several stores")
+            if self.size > STORE:
+                raise Fault(f"{shown(self.place)} has more than the {STORE:,} bytes of a store: put less, or in several stores")
             data = file.read()
             self.progress.done += 1
             after = os.fstat(handle)

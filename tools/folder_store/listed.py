@@ -1,12 +1,13 @@
 """What a store lists, as a tree: first of its own names, then of real ones. A listing that leads elsewhere is refused whole."""
 import re
 
+from folder_store import limits
 from folder_store.faults import Fault, Hostile
 from folder_store.index import read_index
 from folder_store.names import HALF, INDEX, MORE, PARTS, pieces, real_name, real_names, shown
 from folder_store.tree import FILE, FOLDER, Node
 
-PATH = re.compile(r"/|(?:/(?!\.\.?(?:/|\Z))[A-Za-z0-9._-]{1,64})+")
+PATH = re.compile(rf"/|(?:/(?!\.\.?(?:/|\Z))[A-Za-z0-9._-]{{1,{limits.NAME}}})+")
 
 
 class CoreFolder(dict):

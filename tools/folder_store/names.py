@@ -6,7 +6,7 @@ A store takes names of 1 to 64 letters, digits, `.`, `_` and `-`; a real name is
     a blank                               is written `-_`
     other bytes, a run of them            is written `-.`, two digits 0-9a-f for each byte, `.`; a `-` before `.` or `_` counts among them
     what is then longer than 64 bytes     goes on inside a folder: 48 bytes and `-.more`, then the rest of it
-    a file of more than 1,048,576 bytes   is a folder, named as the file and `-.parts`, with its parts `0000`, `0001` and so on;
+    a file larger than a store takes      is a folder, named as the file and `-.parts`, with its parts `0000`, `0001` and so on;
                                           while `put` writes it the folder's name ends with `-.half`
     times, modes and links of a folder    stand in a file of it that is named `-.index`
 
@@ -16,11 +16,12 @@ that the names of the last three lines are free. Whatever isn't written exactly 
 import os
 import re
 
+from folder_store import limits
 from folder_store.faults import BadWords, Hostile
 
-LIMIT, CUT, REAL_LIMIT = 64, 48, 255
+LIMIT, CUT, REAL_LIMIT = limits.NAME, 48, 255
 INDEX, PARTS, HALF, MORE = "-.index", "-.parts", "-.half", "-.more"
-PART_SIZE = 1_048_576
+PART_SIZE = limits.FILE      # a larger file is put in parts
 TO_ESCAPE = re.compile(rb" |(?:[^A-Za-z0-9._ -]|-(?=[._]))+")
 ESCAPE = re.compile(rb"-_|-\.((?:[0-9a-f]{2})+)\.")
 

@@ -4,18 +4,16 @@ import re
 import shutil
 import subprocess
 
-from folder_store import private
+from folder_store import limits, private
 from folder_store.faults import (AlreadyNew, Damaged, Fault, Hostile, NeedsUpgrade, NoSpace, NotAStore, OlderCopy, Tampered, WrongKey,
                                  behind, forked)
 
 RANDOM = "/dev/urandom"     # an ordinary file would give the first holder the owner's key
-INPUT_LIMIT = 67_108_864    # bytes that one session takes, the owner's line among them
-SESSIONS = 256              # that one `serve` begins
 PIECE = 4096                # what goes into a pipe whole or not at all
 BEHIND, FORKED, BAD_PROOF = 19, 20, 21     # statuses of `prove`, of what is handed a head, and of `check`
 HEAD = re.compile(rb"head ((?:0|[1-9][0-9]{0,9}):[0-9a-f]{64})\n")
 MARK, MARKED = "\nrm /", "refused is-root"     # a line that is always refused, and its reply
-ALMOST_NOTHING = 2 << 20    # free bytes on a disk that count as full: a command writes up to 1 MiB and its keys
+ALMOST_NOTHING = 2 * limits.FILE     # free bytes on a disk that count as full: a command writes up to a file of the largest and its keys
 LIBRARY = os.path.dirname(os.path.dirname(os.path.abspath(__file__)))     # tools/ of the tree, or PREFIX/lib/cryptree
 BESIDE = os.path.join(*([LIBRARY, "..", "..", "bin"] if LIBRARY.endswith("/lib/cryptree") else [LIBRARY, "..", "build"]), "cryptree")
 
@@ -30,14 +28,17 @@ def find():
     return os.path.abspath(found)
 
 
-def start(store, *command, **how):
-    """The program at work on this store, with a command and what it takes."""
+def start(store, *command, lock=None, **how):
+    """The program at work on this store, with a command and what it takes: on the very file that has this lock, where one is named, whatever
+    comes to have the store's name meanwhile. The lock is then the program's too."""
     try:
         os.fsencode(store).decode()
     except UnicodeDecodeError:
         raise Fault(f"the store's path {store!r} isn't UTF-8, which the program asks for: rename it") from None
-    return subprocess.Popen([find(), os.path.abspath(store), RANDOM, *command], bufsize=0, stderr=subprocess.PIPE,
-                            start_new_session=True, **{"stdout": subprocess.PIPE} | how)
+    opened = f"/proc/self/fd/{lock}"
+    path = opened if lock is not None and os.path.exists(opened) else os.path.abspath(store)
+    return subprocess.Popen([find(), path, RANDOM, *command], bufsize=0, stderr=subprocess.PIPE, start_new_session=True,
+                            pass_fds=() if lock is None else (lock,), **{"stdout": subprocess.PIPE} | how)
 
 
 def made(file, store):
@@ -52,7 +53,7 @@ def made(file, store):
 def answer(store, command, key_line, lock, head=None):
     """The lines that `list` or `audit` prints to this key, one after another, without newlines; with a head OlderCopy where the store
     doesn't go on from it. Whoever takes them has to throw them away where a fault comes at their end."""
-    with start(store, *with_head(command, head), stdin=subprocess.PIPE, pass_fds=(lock,)) as process:
+    with start(store, *with_head(command, head), lock=lock, stdin=subprocess.PIPE) as process:
         try:
             process.stdin.write(key_line.encode("ascii") + b"\n")
         except BrokenPipeError:
@@ -78,7 +79,7 @@ def upgraded(store, owner_line, lock, head):
 def replaced(store, owner_line, lock, head, number, place):
     """Has a holder replaced in a store that goes on from a head. All that the program prints goes into a new file of this place, where each
     reply stands before the next command is done. Gives the replies and the last head."""
-    with private.synced(place) as file, start(store, "run", head, stdin=subprocess.PIPE, stdout=file, pass_fds=(lock,)) as process:
+    with private.synced(place) as file, start(store, "run", head, lock=lock, stdin=subprocess.PIPE, stdout=file) as process:
         _, said = process.communicate(f"{owner_line}\nreplace {number}\n".encode("ascii"))
     *replies, last = private.read(place).splitlines(True) or [b""]
     if process.returncode:
@@ -88,7 +89,7 @@ def replaced(store, owner_line, lock, head, number, place):
 
 def asked(store, command, lock, typed=b""):
     """The status of a call that is typed at once, what it printed and what it said."""
-    with start(store, *command, stdin=subprocess.PIPE, pass_fds=(lock,)) as process:
+    with start(store, *command, lock=lock, stdin=subprocess.PIPE) as process:
         printed, said = process.communicate(typed)
     return process.returncode, printed, said
 
@@ -136,9 +137,9 @@ class Session:
     command = "run"
 
     def __init__(self, store, owner_line, lock, head=None):
-        self.store, self.room, self.failure, self.is_answered = store, INPUT_LIMIT, None, False
+        self.store, self.room, self.failure, self.is_answered = store, limits.INPUT, None, False
         self.has_head, self.head = head is not None, None
-        self.process = start(store, *with_head(self.command, head), stdin=subprocess.PIPE, pass_fds=(lock,))
+        self.process = start(store, *with_head(self.command, head), lock=lock, stdin=subprocess.PIPE)
         self.printed = open(self.process.stdout.fileno(), "rb", closefd=False)
         self.send(owner_line)
 
@@ -204,7 +205,7 @@ class Serve(Session):
 
     @property
     def is_half_spent(self):
-        return self.begun > SESSIONS // 2 or self.room < INPUT_LIMIT // 2
+        return self.begun > limits.SESSIONS // 2 or self.room < limits.INPUT // 2
 
     def turn(self, line):
         """All that a line is answered. How many replies a replacement has isn't told, so behind it goes a line that is always refused."""

@@ -1,10 +1,10 @@
 """How much room a store has, and how much of it is kept back, so that it can revoke as long as it's written by this front end."""
 import collections
 
-from folder_store import last
+from folder_store import last, limits
 from folder_store.faults import Full, warn
 
-LIMIT = 1_073_741_824     # bytes of a store
+LIMIT = limits.STORE
 WARNED_AT = 80          # in 100
 COMMAND = 2048          # bytes, more than a command is likely to take beside a file's bytes and the links of a departure
 OWN_LINKS = 4           # of a folder whose keys are renewed, beside those into what is in it and those from holders
@@ -77,8 +77,18 @@ def tell_of_revocations(store):
         warn(f"{store.path} may not have the room that a revocation of every grant takes: make a new one of what stands with renew")
 
 
+def is_nearly_full(end):
+    return end is not None and end > LIMIT * WARNED_AT // 100
+
+
 def tell(path, end):
-    """Warns where a store whose log ends there is nearly full."""
-    if end > LIMIT * WARNED_AT // 100:
+    """Warns where a store whose log ends there is nearly full; None is one to which nothing was written."""
+    if is_nearly_full(end):
         warn(f"{path} is {end * 100 // LIMIT} in 100 full, and what was overwritten takes its room too; a full one takes no more commands, "
              "a revocation neither: make a new one of what stands with renew")
+
+
+def tell_of_renewed(path, end):
+    """The same of a store that holds nothing but what stands, so that another renew is no help."""
+    if is_nearly_full(end):
+        warn(f"{path} is {end * 100 // LIMIT} in 100 full with what stands alone: put some of it in a store of its own, and take it away there")

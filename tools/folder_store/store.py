@@ -7,19 +7,20 @@ import stat
 import tempfile
 from typing import NamedTuple
 
-from folder_store import places, private, program, room
+from folder_store import limits, places, private, program, room
 from folder_store.faults import (AlreadyNew, BadKey, Damaged, Fault, Hostile, Locked, NeedsUpgrade, NoStore, NotAStore, OlderCopy, Refused,
                                  Tampered, WrongKey, warn)
 from folder_store.holders import Holders
 from folder_store.keys import KeyFolder, read_key
-from folder_store.last import Last, has_unpublished
+from folder_store.last import Last, end_of_log, has_unpublished
 from folder_store.names import real_path, shown
 from folder_store.progress import followed
 
 TOLD, COPY = "told", "copy"     # how one that may be older is read: told that it is, or as a copy that is known to be one
 UNOPENED = (NotAStore, Damaged, WrongKey, Tampered, OlderCopy, NeedsUpgrade, AlreadyNew)     # before an answer: nothing was written
 MAGIC, IDENTITY_AT, HEADER = b"CRYPTREE\1", 9, 42
-NAME = rb"(?!\.\.?(?:[/ ]|\Z))[A-Za-z0-9._-]{1,64}"
+TAG = 33        # bytes of a batch's owner tag, which hangs on all before it, and of the gate behind it
+NAME = rb"(?!\.\.?(?:[/ ]|\Z))[A-Za-z0-9._-]{1,%d}" % limits.NAME
 LISTED = re.compile(rb"(?:(folder|ancestor) ((?:/" + NAME + rb")+|/)|(file) ((?:/" + NAME + rb")+) )")     # without a file's bytes
 NUMBERS = rb" ([0-9]{1,10}) ([0-9]{1,10}) "
 SEEN = re.compile(rb"(?:(folder)" + NUMBERS + rb"(" + NAME + rb"|)|(file)" + NUMBERS + rb"(" + NAME + rb") )")
@@ -63,6 +64,7 @@ class Store:
     def __init__(self, path, handle, keys, last=None):
         self.path, self.handle, self.keys, self.last = path, handle, keys, last
         self.writes = self.owner_read = self.is_tested = False
+        self.end = None     # of the log, once something was written, until it's told how full the store is
 
     @classmethod
     def open(cls, path, keys_folder, writes, wait, accept=False, older=None):
@@ -97,11 +99,41 @@ class Store:
         return self
 
     def __exit__(self, kind, *_):
+        """Behind what was written how full the store is, is told once, and it has to have its name still."""
         try:
+            end = self.taken_end()
+            room.tell(self.path, end)
+            if kind is None and end is not None:
+                self.see_that_it_has_its_name()
             if kind is None and self.last and not self.writes:
                 self.keep_head()
         finally:
             os.close(self.handle)
+
+    def taken_end(self):
+        """Where the log ends, if something was written and nobody was told of it; who takes that tells it."""
+        end, self.end = self.end, None
+        return end
+
+    def see_that_it_has_its_name(self):
+        """A Fault where another file has come to have the store's name since it was locked, or none, and what was written isn't in that one.
+        There are disks that give one file several numbers, so those alone don't tell."""
+        try:
+            has_its_name = os.path.samestat(os.fstat(self.handle), os.stat(self.path)) or self.ends_as(self.path)
+        except (OSError, Fault):
+            has_its_name = False
+        if not has_its_name:
+            raise Fault(f"another file has come to be {self.path}, or none is, while it was written, so what was just written isn't there: look "
+                        "for the file that was moved away, and put that back; what replaces files, as a synced folder does, is no place to write")
+
+    def ends_as(self, path):
+        """Whether the file of this path has the store's last batch where the store has it."""
+        end = end_of_log(self.handle)
+        handle = opened(path, writes=False)
+        try:
+            return os.pread(handle, TAG, end - TAG) == os.pread(self.handle, TAG, end - TAG)
+        finally:
+            os.close(handle)
 
     def keep_head(self):
         """Keeps the head that a reading saw; beside an owner's key one alone whose tags were tested with it, since anybody can add batches
@@ -207,7 +239,7 @@ class Store:
         if isinstance(failure, UNOPENED) and not failure.is_answered:
             self.last.unmark()
         else:
-            room.tell(self.path, self.last.write(head))
+            self.end = self.last.write(head)
 
     def upgrade(self):
         """Makes the store one of version 2; AlreadyNew where it is one."""

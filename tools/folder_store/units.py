@@ -1,11 +1,11 @@
 """What a store holds, or is to hold, by paths: folders, files, and files in parts, as the program's lines can make them."""
 from folder_store.faults import Fault
 from folder_store.index import index_of
+from folder_store.limits import DEPTH
 from folder_store.listed import CoreFolder, part_name
 from folder_store.names import HALF, INDEX, PART_SIZE, PARTS, joined, pieces, shown
 from folder_store.tree import FILE, FOLDER, Node
 
-DEPTH = 64
 Unit = None | bytes | tuple[bytes, ...]     # a folder, a file, a file in parts
 
 
