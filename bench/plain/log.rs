@@ -6,7 +6,7 @@ use crate::{Fault, damaged, tampered};
 pub const HEADER: usize = 42;
 const FRAME: usize = 110;
 const LIMIT: usize = 1_073_741_824;
-const FILE_LIMIT: usize = 1_048_576;
+pub const FILE_LIMIT: usize = 1_048_576;
 
 /// A batch, with the places of its payload and of its check.
 pub struct Batch {

@@ -1,13 +1,11 @@
 //! What the owner's key opens of the records ("What a reader opens").
 use crate::follow::{State, be32};
 use crate::hashing::{Mac, xor};
-use crate::log::Batch;
+use crate::log::{Batch, FILE_LIMIT};
 use crate::{Fault, damaged, tampered};
 use std::cell::OnceCell;
 use std::collections::HashMap;
 use std::ops::Range;
-
-const FILE_LIMIT: usize = 1_048_576;
 
 /// A key, and once something is opened with it, what tags and what enciphers under it.
 #[derive(Default)]
